@@ -1,0 +1,83 @@
+-- What is escaped has no bad place, and only one text is escaped as it.
+use Rattle.std.proofs.Common.{◌≡◌, ◌≢◌, ℕ, zero, suc, ◌<◌, false, if◌then◌else◌, List, [], ◌∷◌, ◌++◌, drop, take, length, get_or, codes, refl, sym, ◌∙◌, ap, subst, ⊎_elim, arith, append_assoc, length-append}
+use Rattle.std.specs.Str.{bytes_eq}
+use Rattle.std.proofs.lemmas.Bool.{cases_eq, ne_eqb}
+use Rattle.html_names.specs.Escape.{spelling_of, escaped, begins_badly}
+
+-- A byte is one of the five that have replacements, or another.
+pub each_byte : (P : ℕ → Type 0) → P 34 → P 38 → P 39 → P 60 → P 62 →
+    ((b : ℕ) → b ≢ 34 → b ≢ 38 → b ≢ 39 → b ≢ 60 → b ≢ 62 → P b) → (b : ℕ) → P b
+each_byte P p34 p38 p39 p60 p62 other b =
+    ⊎_elim (λ e. subst P (sym e) p34) (λ n34.
+    ⊎_elim (λ e. subst P (sym e) p38) (λ n38.
+    ⊎_elim (λ e. subst P (sym e) p39) (λ n39.
+    ⊎_elim (λ e. subst P (sym e) p60) (λ n60.
+    ⊎_elim (λ e. subst P (sym e) p62) (λ n62. other b n34 n38 n39 n60 n62)
+    (cases_eq b 62)) (cases_eq b 60)) (cases_eq b 39)) (cases_eq b 38)) (cases_eq b 34)
+
+-- No place of the first bytes is bad, where the others follow.
+abbrev NoneBad : List ℕ → List ℕ → Type 0
+NoneBad [] more = Unit {0}
+NoneBad (b ∷ bs) more = (begins_badly (b ∷ (bs ++ more)) ≡ false) × NoneBad bs more
+
+NoneBad-append : (xs ys more : List ℕ) → NoneBad xs (ys ++ more) → NoneBad ys more → NoneBad (xs ++ ys) more
+NoneBad-append [] ys more h k = k
+NoneBad-append (x ∷ xs) ys more h k = (rw (append_assoc xs ys more) h.0, NoneBad-append xs ys more h.1 k)
+
+NoneBad-at : (xs more : List ℕ) (k : ℕ) → NoneBad xs more → k < length xs → begins_badly (drop k (xs ++ more)) ≡ false
+NoneBad-at [] more k h l = absurd (omega arith)
+NoneBad-at (x ∷ xs) more zero h l = h.0
+NoneBad-at (x ∷ xs) more (suc k) h l = NoneBad-at xs more k h.1 (omega arith)
+
+-- Another byte stands for itself.
+pub plain_spelling : (b : ℕ) → b ≢ 34 → b ≢ 38 → b ≢ 39 → b ≢ 60 → b ≢ 62 → spelling_of b ≡ b ∷ []
+plain_spelling b n34 n38 n39 n60 n62 = rw (ne_eqb b 34 n34, ne_eqb b 38 n38, ne_eqb b 39 n39, ne_eqb b 60 n60, ne_eqb b 62 n62)
+
+plain_good : (b : ℕ) (bs : List ℕ) → b ≢ 34 → b ≢ 38 → b ≢ 39 → b ≢ 60 → b ≢ 62 → begins_badly (b ∷ bs) ≡ false
+plain_good b bs n34 n38 n39 n60 n62 = rw (ne_eqb b 34 n34, ne_eqb b 38 n38, ne_eqb b 39 n39, ne_eqb b 60 n60, ne_eqb b 62 n62)
+
+NoneBad-spelling : (more : List ℕ) (b : ℕ) → NoneBad (spelling_of b) more
+NoneBad-spelling more = each_byte (λ b. NoneBad (spelling_of b) more)
+    (refl, (refl, (refl, (refl, (refl, (refl, tt)))))) (refl, (refl, (refl, (refl, (refl, tt)))))
+    (refl, (refl, (refl, (refl, (refl, (refl, tt)))))) (refl, (refl, (refl, (refl, tt)))) (refl, (refl, (refl, (refl, tt))))
+    (λ b n34 n38 n39 n60 n62. subst (λ bs. NoneBad bs more) (sym (plain_spelling b n34 n38 n39 n60 n62)) (plain_good b more n34 n38 n39 n60 n62, tt))
+
+NoneBad-escaped : (text more : List ℕ) → NoneBad (escaped text) more
+NoneBad-escaped [] more = tt
+NoneBad-escaped (b ∷ text) more =
+    NoneBad-append (spelling_of b) (escaped text) more (NoneBad-spelling (escaped text ++ more) b) (NoneBad-escaped text more)
+
+-- No place of an escaped text is bad, whatever follows.
+pub escaped_clean : (text more : List ℕ) (k : ℕ) → k < length (escaped text) → begins_badly (drop k (escaped text ++ more)) ≡ false
+escaped_clean text more k l = NoneBad-at (escaped text) more k (NoneBad-escaped text more) l
+
+-- The byte whose spelling stands at the front, and the length of its spelling.
+abbrev byte_at_front : List ℕ → ℕ
+byte_at_front bytes =
+    if bytes_eq (take 6 bytes) (codes "&quot;") then 34 else
+    if bytes_eq (take 5 bytes) (codes "&amp;") then 38 else
+    if bytes_eq (take 6 bytes) (codes "&#x27;") then 39 else
+    if bytes_eq (take 4 bytes) (codes "&lt;") then 60 else
+    if bytes_eq (take 4 bytes) (codes "&gt;") then 62 else get_or bytes 0 0
+
+byte_at_front_is : (more : List ℕ) (b : ℕ) → byte_at_front (spelling_of b ++ more) ≡ b
+byte_at_front_is more = each_byte (λ b. byte_at_front (spelling_of b ++ more) ≡ b) refl refl refl refl refl
+    (λ b n34 n38 n39 n60 n62. rw (plain_spelling b n34 n38 n39 n60 n62, ne_eqb b 38 n38))
+
+pub spelling_some : (b : ℕ) → 0 < length (spelling_of b)
+spelling_some = each_byte (λ b. 0 < length (spelling_of b)) (omega arith) (omega arith) (omega arith) (omega arith) (omega arith)
+    (λ b n34 n38 n39 n60 n62. rw (plain_spelling b n34 n38 n39 n60 n62) (omega arith))
+
+same_front : (xs ys zs : List ℕ) → xs ++ ys ≡ xs ++ zs → ys ≡ zs
+same_front [] ys zs e = e
+same_front (x ∷ xs) ys zs e = same_front xs ys zs (ap (drop 1) e)
+
+-- Only one text is escaped as these bytes.
+pub escaped_injective : (xs ys : List ℕ) → escaped xs ≡ escaped ys → xs ≡ ys
+escaped_injective [] [] e = refl
+escaped_injective [] (y ∷ ys) e = absurd (omega (arith, spelling_some y, ap length e, length-append (spelling_of y) (escaped ys)))
+escaped_injective (x ∷ xs) [] e = absurd (omega (arith, spelling_some x, ap length e, length-append (spelling_of x) (escaped xs)))
+escaped_injective (x ∷ xs) (y ∷ ys) e =
+    let same : x ≡ y = sym (byte_at_front_is (escaped xs) x) ∙ (ap byte_at_front e ∙ byte_at_front_is (escaped ys) y) in
+    let rest : escaped xs ≡ escaped ys = same_front (spelling_of x) (escaped xs) (escaped ys) (e ∙ ap (λ b. spelling_of b ++ escaped ys) (sym same)) in
+    cc (same, escaped_injective xs ys rest)

@@ -1,0 +1,5 @@
+pub mod Escaping
+pub mod Fronts
+pub mod Rows
+pub mod Unescaping
+pub mod Utf8

@@ -1,0 +1,127 @@
+//! Escaping of text and of attributes' values, and its inverse.
+
+ghost use Rattle.std.specs.Prelude.{◌≡◌, ◌++◌, ◌⊎◌, ◌↔◌, ℕ, Bool, true, false, List, [], if◌then◌else◌, is_ok, length, IfOk, IfErr, OnOk, OnErr, MatchOption};
+ghost use Rattle.std.specs.Str.{IsUtf8};
+ghost use Rattle.html_names.specs.Escape.{spelling_of, escaped, begins_badly, begins_entity, IsClean, IsEscaped, IsEscapedFront, IsTextAndOpen};
+ghost use Rattle.html_names.specs.Faults.{HasCause};
+ghost use Rattle.html_names.specs.declared.escape.EntityFault.TheVariants.{OutOfMemory as Memory};
+
+use crate::memory::OutOfMemory;
+use std::alloc::{AllocError, AllocFailed, Global};
+
+/// Why bytes are no escaped text.
+#[derive(Clone, Copy, Debug, PartialEq, Eq, Drop)]
+pub enum EntityFault {
+    /// At the byte `at` stands one of `"`, `'`, `<` and `>`, or an `&` that begins none of the five replacements. It
+    /// is the first such place.
+    BadEntity { at: usize },
+    OutOfMemory,
+}
+
+impl From<AllocError> for EntityFault {
+    ghost from_gives = { λ _ e. e ≡ Memory };
+
+    fn from(_error: AllocError) -> EntityFault {
+        EntityFault::OutOfMemory
+    }
+}
+
+impl<T: Drop> From<AllocFailed<T>> for EntityFault {
+    ghost from_gives = { λ _ e. e ≡ Memory };
+
+    fn from(_error: AllocFailed<T>) -> EntityFault {
+        EntityFault::OutOfMemory
+    }
+}
+
+/// Appends the escaped text: `"`, `&`, `'`, `<` and `>` are written `&quot;`, `&amp;`, `&#x27;`, `&lt;` and `&gt;`, as
+/// React's server renderer writes them. Where memory runs out, `out` stays as it was.
+pub fn push_escaped(out: &mut Vec<u8>, text: &[u8]) -> Result<(), OutOfMemory>
+    ensures appended { OnOk result (out.new.items ≡ out.old.items ++ escaped text.now) }
+    ensures unchanged { OnErr result (out.new.items ≡ out.old.items) }
+    ensures utf8 { IsUtf8 text.now → IsUtf8 out.old.items → IsUtf8 out.new.items }
+{
+    let before = out.len();
+    for byte in text {
+        if push_spelling(out, *byte).is_err() {
+            out.truncate(before);
+            return Err(OutOfMemory);
+        }
+    }
+    Ok(())
+}
+
+fn push_spelling(out: &mut Vec<u8>, byte: u8) -> Result<(), AllocError>
+    ensures { out.new.items ≡ (if is_ok result then out.old.items ++ spelling_of byte else out.old.items) }
+{
+    match byte {
+        b'"' => out.extend_from_slice(b"&quot;"),
+        b'&' => out.extend_from_slice(b"&amp;"),
+        b'\'' => out.extend_from_slice(b"&#x27;"),
+        b'<' => out.extend_from_slice(b"&lt;"),
+        b'>' => out.extend_from_slice(b"&gt;"),
+        _ => out.extend_from_slice(&[byte]),
+    }
+}
+
+/// The one text that is escaped as `bytes`.
+pub fn unescape(alloc: Global, bytes: &[u8]) -> Result<Vec<u8>, EntityFault>
+    ensures found { IfOk result (λ text. escaped text.items ≡ bytes.now) }
+    ensures one { (text : List ℕ) → escaped text ≡ bytes.now → IfOk result (λ found. found.items ≡ text) }
+    ensures clean { OnOk result (IsClean bytes.now) }
+    ensures utf8 { IsUtf8 bytes.now → IfOk result (λ text. IsUtf8 text.items) }
+    ensures refused { IfErr result (HasCause bytes.now) }
+{
+    let mut text = Vec::new(alloc);
+    let mut rest = bytes;
+    while let Some((byte, more)) = split_spelling(rest) {
+        text.push(byte)?;
+        rest = more;
+    }
+    if rest.is_empty() {
+        Ok(text)
+    } else {
+        Err(EntityFault::BadEntity {
+            at: bytes.len() - rest.len(),
+        })
+    }
+}
+
+/// The byte whose spelling begins `rest`, and what follows.
+fn split_spelling(rest: &[u8]) -> Option<(u8, &[u8])>
+    ensures { MatchOption result ((rest.now ≡ []) ⊎ (begins_badly rest.now ≡ true)) (λ found. rest.now ≡ spelling_of found.0 ++ found.1.now) }
+{
+    let (first, more) = rest.split_first()?;
+    match *first {
+        b'"' | b'\'' | b'<' | b'>' => None,
+        b'&' => split_entity(rest),
+        byte => Some((byte, more)),
+    }
+}
+
+fn split_entity(rest: &[u8]) -> Option<(u8, &[u8])>
+    ensures { MatchOption result (begins_entity rest.now ≡ false) (λ found. rest.now ≡ spelling_of found.0 ++ found.1.now) }
+{
+    if let Some(more) = rest.strip_prefix(b"&quot;") {
+        Some((b'"', more))
+    } else if let Some(more) = rest.strip_prefix(b"&amp;") {
+        Some((b'&', more))
+    } else if let Some(more) = rest.strip_prefix(b"&#x27;") {
+        Some((b'\'', more))
+    } else if let Some(more) = rest.strip_prefix(b"&lt;") {
+        Some((b'<', more))
+    } else if let Some(more) = rest.strip_prefix(b"&gt;") {
+        Some((b'>', more))
+    } else {
+        None
+    }
+}
+
+/// Laws of escaping: one text for one spelling, piece by piece, UTF-8 for UTF-8, and what begins an escaped text.
+pub fn laws_of_escaping()
+    ensures one { (a b : List ℕ) → escaped a ≡ escaped b → a ≡ b }
+    ensures joined { (a b : List ℕ) → escaped (a ++ b) ≡ escaped a ++ escaped b }
+    ensures utf8 { (text : List ℕ) → IsUtf8 text ↔ IsUtf8 (escaped text) }
+    ensures clean { (bytes : List ℕ) → IsClean bytes ↔ IsEscaped bytes }
+    ensures front { (bytes : List ℕ) → IsEscapedFront bytes ↔ IsTextAndOpen bytes }
+{}

@@ -1,0 +1,15 @@
+//! The names of HTML that a page may use, and the spelling of texts in HTML and in its scripts.
+//!
+//! Names are bytes: an element's name is looked up as it is written. Texts are UTF-8 bytes, and what is written of
+//! them and read back is UTF-8.
+#![tactic(auto)]
+
+mod elements;
+mod escape;
+mod memory;
+mod names;
+
+pub use elements::Element;
+pub use escape::{EntityFault, laws_of_escaping, push_escaped, unescape};
+pub use memory::OutOfMemory;
+pub use names::element;
