@@ -1,0 +1,5 @@
+pub mod Faults
+pub mod FileContents
+pub mod Memory
+pub mod MemoryEntries
+pub mod Sinks

@@ -1,0 +1,8 @@
+ghost use Rattle.std.specs.Prelude.{◌↔◌, IsTrue, Contains};
+
+/// Whether the number of a call is among those that fail.
+pub fn is_listed(fails: &[u32], call: u64) -> bool
+    ensures { IsTrue result ↔ Contains fails.now call }
+{
+    fails.iter().any(|n| u64::from(*n) == call)
+}
