@@ -1,4 +1,6 @@
+pub mod Attributes
 pub mod Elements
 pub mod Escape
 pub mod Faults
+pub mod Names
 pub mod Rows

@@ -4,12 +4,14 @@
 //! them and read back is UTF-8.
 #![tactic(auto)]
 
+mod attributes;
 mod elements;
 mod escape;
 mod memory;
 mod names;
 
+pub use attributes::{AttrKind, AttrName, Attribute};
 pub use elements::Element;
 pub use escape::{EntityFault, laws_of_escaping, push_escaped, unescape};
 pub use memory::OutOfMemory;
-pub use names::element;
+pub use names::{attribute, element, is_reserved_id, laws_of_names};

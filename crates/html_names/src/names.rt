@@ -1,13 +1,122 @@
-//! The names that a page may use.
+//! The names that a page may use, looked up as the source writes them.
 
-ghost use Rattle.std.specs.Prelude.{◌≡◌, MatchOption, Some, None};
-ghost use Rattle.html_names.specs.Elements.{void_flag};
+ghost use Rattle.std.specs.Prelude.{◌≡◌, ◌++◌, ℕ, List, ◌&&◌, ◌||◌, true, false, codes, drop, length, nat_lt, map, option_map, IsTrue, MatchOption, Some, None};
+ghost use Rattle.std.specs.List.{list_all};
+ghost use Rattle.std.specs.Map.{lookup};
+ghost use Rattle.std.specs.Str.{bytes_eq};
+ghost use Rattle.html_names.specs.Attributes.{Meaning, attribute_of, printed_name, is_spoken_byte, is_spoken_name, is_reserved};
+ghost use Rattle.html_names.specs.Elements.{IsElementName, void_flag};
+ghost use Rattle.html_names.specs.Names.{begins_with, is_plain_name};
+ghost use Rattle.html_names.specs.Rows.{row_of, meaning_of, attribute_row};
 
-use crate::elements::{ELEMENTS, Element, find_element};
+use crate::attributes::{ATTRIBUTES, AttrKind, AttrName, Attribute};
+use crate::elements::{ELEMENTS, Element};
 
-/// The element of this name, or `None` exactly where there is no such element.
+/// The element of this name, or `None` exactly where there is no such element. It looks at each of the 51 rows.
 pub fn element(name: &[u8]) -> Option<Element>
     ensures { MatchOption result (void_flag name.now ≡ None) (λ e. (e.name.now ≡ name.now) × (void_flag name.now ≡ Some e.is_void)) }
 {
-    find_element(&ELEMENTS, name)
+    match find_row(&ELEMENTS, name) {
+        Some((name, is_void)) => Some(Element {
+            name,
+            is_void: *is_void,
+        }),
+        None => None,
+    }
+}
+
+/// The attribute that is written `name`, or `None` exactly where there is no such attribute: `name` is none of the
+/// table, and isn't `aria-` or `data-` with one or more of a to z, 0 to 9 and `-` behind it. `data-dgst` is none.
+pub fn attribute(name: &[u8]) -> Option<Attribute>
+    ensures { option_map meaning_of result ≡ attribute_of name.now }
+{
+    if is_spoken(name) {
+        return Some(Attribute {
+            printed: AttrName::Own,
+            kind: AttrKind::Spoken,
+        });
+    }
+    find_attribute(&ATTRIBUTES, name)
+}
+
+fn find_attribute(rows: &[(&'static str, (AttrName, AttrKind))], name: &[u8]) -> Option<Attribute>
+    ensures { option_map meaning_of result ≡ lookup (bytes_eq name.now) (map attribute_row rows.now) }
+{
+    match find_row(rows, name) {
+        Some((_, (printed, kind))) => Some(Attribute {
+            printed: *printed,
+            kind: *kind,
+        }),
+        None => None,
+    }
+}
+
+fn is_spoken(name: &[u8]) -> bool
+    ensures { result ≡ is_spoken_name name.now }
+{
+    match spoken_part(name) {
+        Some(part) => is_spoken_part(part) && name != b"data-dgst".as_slice(),
+        None => false,
+    }
+}
+
+/// What follows `aria-` or `data-`.
+fn spoken_part(name: &[u8]) -> Option<&[u8]>
+    ensures { MatchOption result ((begins_with (codes "aria-") name.now || begins_with (codes "data-") name.now) ≡ false)
+        (λ part. ((begins_with (codes "aria-") name.now || begins_with (codes "data-") name.now) ≡ true) × (part.now ≡ drop 5 name.now)) }
+{
+    match name.strip_prefix(b"aria-") {
+        Some(part) => Some(part),
+        None => name.strip_prefix(b"data-"),
+    }
+}
+
+fn is_spoken_part(part: &[u8]) -> bool
+    ensures { result ≡ (nat_lt 0 (length part.now) && list_all is_spoken_byte part.now) }
+{
+    !part.is_empty() && are_spoken(part)
+}
+
+fn are_spoken(part: &[u8]) -> bool
+    ensures { result ≡ list_all is_spoken_byte part.now }
+{
+    part.iter().all(|byte| may_be_spoken(*byte))
+}
+
+fn may_be_spoken(byte: u8) -> bool
+    ensures { result ≡ is_spoken_byte byte }
+{
+    matches!(byte, b'a'..=b'z' | b'0'..=b'9' | b'-')
+}
+
+/// Whether the renderer's own ids have this form: `value` begins with `prefix` and then `B:`, `S:` or `P:`.
+pub fn is_reserved_id(prefix: &[u8], value: &[u8]) -> bool
+    ensures { result ≡ is_reserved prefix.now value.now }
+{
+    match value.strip_prefix(prefix) {
+        Some(rest) => rest.starts_with(b"B:") || rest.starts_with(b"S:") || rest.starts_with(b"P:"),
+        None => false,
+    }
+}
+
+/// Laws of names: each element's name and each attribute's printed name is a letter followed by letters, digits and
+/// `-`, and an id of the renderer's own is reserved.
+pub fn laws_of_names()
+    ensures elements { (name : List ℕ) → IsElementName name → is_plain_name name ≡ true }
+    ensures attributes { (name : List ℕ) (meaning : Meaning) → attribute_of name ≡ Some meaning → is_plain_name (printed_name name meaning) ≡ true }
+    ensures own_ids { (prefix more : List ℕ) → (is_reserved prefix (prefix ++ (codes "B:" ++ more)) ≡ true)
+        × (is_reserved prefix (prefix ++ (codes "S:" ++ more)) ≡ true) × (is_reserved prefix (prefix ++ (codes "P:" ++ more)) ≡ true) }
+{}
+
+/// The first row of this name.
+fn find_row<'a, V>(rows: &'a [(&'static str, V)], name: &[u8]) -> Option<&'a (&'static str, V)>
+    ensures { MatchOption result (lookup (bytes_eq name.now) (map row_of rows.now) ≡ None)
+        (λ row. (row.now.0.now ≡ name.now) × (lookup (bytes_eq name.now) (map row_of rows.now) ≡ Some row.now.1)) }
+{
+    for row in rows {
+        if name == row.0.as_bytes() {
+            return Some(row);
+        }
+    }
+    None
 }

@@ -1,0 +1,58 @@
+-- The attributes that an element may have: the names that a source writes, in React's spelling, the names that are
+-- printed, in HTML's, and how each value is printed.
+use Rattle.std.specs.Prelude.{ℕ, Bool, ◌&&◌, ◌||◌, ◌==◌, if◌then◌else◌, List, [], ◌∷◌, drop, length, nat_lt, not, codes, Option, None, Some, unwrap_or}
+use Rattle.std.specs.List.{list_all}
+use Rattle.std.specs.Map.{lookup}
+use Rattle.std.specs.Str.{bytes_eq}
+use Rattle.html_names.specs.declared.attributes.AttrKind.{AttrKind}
+use Rattle.html_names.specs.declared.attributes.AttrKind.TheVariants.{Plain, Flag, Spoken, Id, Key}
+use Rattle.html_names.specs.Names.{begins_with}
+
+-- What an attribute means: the name that is printed, where it is another than the one that is written, and the kind.
+abbrev pub Meaning : Type 0
+Meaning = Option (List ℕ) × AttrKind
+
+-- The attributes that go by one name.
+unfoldable pub attribute_rows : List (List ℕ × Meaning)
+attribute_rows =
+    (codes "className", (Some (codes "class"), Plain)) ∷
+    (codes "htmlFor", (Some (codes "for"), Plain)) ∷
+    (codes "title", (None, Plain)) ∷
+    (codes "lang", (None, Plain)) ∷
+    (codes "dir", (None, Plain)) ∷
+    (codes "role", (None, Plain)) ∷
+    (codes "href", (None, Plain)) ∷
+    (codes "target", (None, Plain)) ∷
+    (codes "rel", (None, Plain)) ∷
+    (codes "cite", (None, Plain)) ∷
+    (codes "id", (None, Id)) ∷
+    (codes "hidden", (None, Flag)) ∷
+    (codes "disabled", (None, Flag)) ∷
+    (codes "open", (None, Flag)) ∷
+    (codes "key", (None, Key)) ∷
+    []
+
+-- A byte that may follow `aria-` and `data-`: a to z, 0 to 9 and `-`.
+abbrev pub is_spoken_byte : ℕ → Bool
+is_spoken_byte b = (nat_lt 96 b && nat_lt b 123) || (nat_lt 47 b && nat_lt b 58) || b == 45
+
+-- `aria-` or `data-` and one or more such bytes. The renderer writes `data-dgst` itself, and so a source may not.
+abbrev pub is_spoken_name : List ℕ → Bool
+is_spoken_name name =
+    let rest = drop 5 name in
+    (begins_with (codes "aria-") name || begins_with (codes "data-") name)
+    && (nat_lt 0 (length rest) && list_all is_spoken_byte rest) && not (bytes_eq name (codes "data-dgst"))
+
+-- The attribute of this name, or None where there is no such attribute.
+abbrev pub attribute_of : List ℕ → Option Meaning
+attribute_of name = if is_spoken_name name then Some (None, Spoken) else lookup (bytes_eq name) attribute_rows
+
+-- The name that is printed for an attribute that is written `name`.
+abbrev pub printed_name : List ℕ → Meaning → List ℕ
+printed_name name meaning = unwrap_or meaning.0 name
+
+-- The value begins with the prefix and then `B:`, `S:` or `P:`, as the renderer's own ids do.
+abbrev pub is_reserved : List ℕ → List ℕ → Bool
+is_reserved prefix value =
+    let rest = drop (length prefix) value in
+    begins_with prefix value && (begins_with (codes "B:") rest || begins_with (codes "S:") rest || begins_with (codes "P:") rest)
