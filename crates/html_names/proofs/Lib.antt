@@ -1,5 +1,8 @@
 pub mod Escaping
 pub mod Fronts
+pub mod JsChars
+pub mod JsReading
+pub mod NoMark
 pub mod PlainNames
 pub mod Rows
 pub mod Unescaping
