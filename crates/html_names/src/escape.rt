@@ -1,6 +1,6 @@
 //! Escaping of text and of attributes' values, and its inverse.
 
-ghost use Rattle.std.specs.Prelude.{◌≡◌, ◌++◌, ◌⊎◌, ◌↔◌, ℕ, Bool, true, false, List, [], if◌then◌else◌, is_ok, length, IfOk, IfErr, OnOk, OnErr, MatchOption};
+ghost use Rattle.std.specs.Prelude.{◌≡◌, ◌++◌, ◌⊎◌, ◌↔◌, ◌<◌, ◌≤◌, ℕ, Bool, true, false, List, [], if◌then◌else◌, is_ok, length, take, drop, IfOk, IfErr, OnOk, OnErr, MatchOption};
 ghost use Rattle.std.specs.Str.{IsUtf8};
 ghost use Rattle.html_names.specs.Escape.{spelling_of, escaped, begins_badly, begins_entity, IsClean, IsEscaped, IsEscapedFront, IsTextAndOpen};
 ghost use Rattle.html_names.specs.Faults.{HasCause};
@@ -42,13 +42,41 @@ pub fn push_escaped(out: &mut Vec<u8>, text: &[u8]) -> Result<(), OutOfMemory>
     ensures utf8 { IsUtf8 text.now → IsUtf8 out.old.items → IsUtf8 out.new.items }
 {
     let before = out.len();
-    for byte in text {
-        if push_spelling(out, *byte).is_err() {
-            out.truncate(before);
-            return Err(OutOfMemory);
-        }
+    if append_escaped(out, text).is_err() {
+        out.truncate(before);
+        return Err(OutOfMemory);
     }
     Ok(())
+}
+
+/// The same, where `out` may keep a part of it after an error.
+fn append_escaped(out: &mut Vec<u8>, text: &[u8]) -> Result<(), AllocError>
+    ensures appended { OnOk result (out.new.items ≡ out.old.items ++ escaped text.now) }
+    ensures front { take (length out.old.items) out.new.items ≡ out.old.items }
+{
+    let mut rest = text;
+    loop {
+        let (plain, marked) = rest.split_at(plain_length(rest));
+        out.extend_from_slice(plain)?;
+        let Some((byte, more)) = marked.split_first() else {
+            return Ok(());
+        };
+        push_spelling(out, *byte)?;
+        rest = more;
+    }
+}
+
+/// How many bytes at the front are written as they are.
+fn plain_length(text: &[u8]) -> usize
+    ensures within { result ≤ length text.now }
+    ensures plain { escaped (take result text.now) ≡ take result text.now }
+{
+    for (at, byte) in text.iter().enumerate() {
+        if matches!(*byte, b'"' | b'&' | b'\'' | b'<' | b'>') {
+            return at;
+        }
+    }
+    text.len()
 }
 
 fn push_spelling(out: &mut Vec<u8>, byte: u8) -> Result<(), AllocError>
@@ -117,11 +145,13 @@ fn split_entity(rest: &[u8]) -> Option<(u8, &[u8])>
     }
 }
 
-/// Laws of escaping: one text for one spelling, piece by piece, UTF-8 for UTF-8, and what begins an escaped text.
+/// Laws of escaping: one text for one spelling, piece by piece, UTF-8 for UTF-8, no bad place in an
+/// escaped text, whatever follows it, and what begins an escaped text.
 pub fn laws_of_escaping()
     ensures one { (a b : List ℕ) → escaped a ≡ escaped b → a ≡ b }
     ensures joined { (a b : List ℕ) → escaped (a ++ b) ≡ escaped a ++ escaped b }
     ensures utf8 { (text : List ℕ) → IsUtf8 text ↔ IsUtf8 (escaped text) }
     ensures clean { (bytes : List ℕ) → IsClean bytes ↔ IsEscaped bytes }
+    ensures inside { (text more : List ℕ) (k : ℕ) → k < length (escaped text) → begins_badly (drop k (escaped text ++ more)) ≡ false }
     ensures front { (bytes : List ℕ) → IsEscapedFront bytes ↔ IsTextAndOpen bytes }
 {}

@@ -1,12 +1,15 @@
-use crate::{AttrKind, AttrName, EntityFault, attribute, element, is_reserved_id};
-use crate::{push_escaped, push_js_string, read_js_string, unescape};
+use crate::{
+    AttrKind, AttrName, EntityFault, attribute, element, is_reserved_id, push_escaped,
+    push_js_string, read_js_string, unescape,
+};
 use serde_json::Value;
 use std::alloc::Global;
 use std::test::Fail;
 
 #[test]
 fn elements_are_those_of_the_table(rt: HostRuntime) {
-    let with_content = "a abbr address article aside b blockquote button cite code dd details div dl dt em \
+    let with_content =
+        "a abbr address article aside b blockquote button cite code dd details div dl dt em \
         figcaption figure footer h1 h2 h3 h4 h5 h6 header i kbd label li main mark nav ol p q s samp section small \
         span strong sub summary sup u ul var";
     for name in with_content.split_whitespace() {
@@ -17,7 +20,10 @@ fn elements_are_those_of_the_table(rt: HostRuntime) {
         let found = element(name.as_bytes()).map(|e| (e.name, e.is_void));
         assert!(rt; found == Some((name, true)), "{name}");
     }
-    for name in ["", "A", "div ", "h7", "img", "input", "script", "Suspense", "table", "template", "textarea", "br/"] {
+    for name in [
+        "", "A", "div ", "h7", "img", "input", "script", "Suspense", "table", "template",
+        "textarea", "br/",
+    ] {
         assert!(rt; element(name.as_bytes()).is_none(), "{name}");
     }
 }
@@ -49,7 +55,20 @@ fn attributes_are_those_of_the_table(rt: HostRuntime) {
         let found = attribute(name.as_bytes()).map(|a| (a.printed, a.kind));
         assert!(rt; found == Some((printed, kind)), "{name}");
     }
-    for name in ["", "class", "for", "ID", "onclick", "style", "aria-", "data-", "data-dgst", "data-N", "aria-é", "data_n"] {
+    for name in [
+        "",
+        "class",
+        "for",
+        "ID",
+        "onclick",
+        "style",
+        "aria-",
+        "data-",
+        "data-dgst",
+        "data-N",
+        "aria-é",
+        "data_n",
+    ] {
         assert!(rt; attribute(name.as_bytes()).is_none(), "{name}");
     }
 }
@@ -69,7 +88,11 @@ fn own_ids_are_reserved(rt: HostRuntime) {
         ("", " S:1", false),
     ];
     for (prefix, value, reserved) in values {
-        assert_eq!(rt; is_reserved_id(prefix.as_bytes(), value.as_bytes()), reserved, "{prefix} {value}");
+        assert_eq!(rt;
+            is_reserved_id(prefix.as_bytes(), value.as_bytes()),
+            reserved,
+            "{prefix} {value}"
+        );
     }
 }
 
@@ -84,7 +107,10 @@ fn texts_are_escaped_and_read_back(rt: HostRuntime) -> Result<(), Fail> {
     for (text, escaped) in texts {
         let mut out = "x".as_bytes().to_vec(rt.alloc())?;
         push_escaped(&mut out, text.as_bytes())?;
-        assert!(rt; out.strip_prefix(b"x") == Some(escaped.as_bytes()), "{text}");
+        assert!(rt;
+            out.strip_prefix(b"x") == Some(escaped.as_bytes()),
+            "{text}"
+        );
         let read = unescape(rt.alloc(), escaped.as_bytes())?;
         assert!(rt; read.as_slice() == text.as_bytes(), "{text}");
     }
@@ -106,7 +132,10 @@ fn bad_places_are_refused(rt: HostRuntime) {
     ];
     for (text, at) in bytes {
         let answer = unescape(rt.alloc(), text.as_bytes());
-        assert!(rt; matches!(answer, Err(EntityFault::BadEntity { at: place }) if place == at), "{text}");
+        assert!(rt;
+            matches!(answer, Err(EntityFault::BadEntity { at: place }) if place == at),
+            "{text}"
+        );
     }
 }
 
