@@ -1,7 +1,9 @@
 -- What is escaped has no bad place, and only one text is escaped as it.
-use Rattle.std.proofs.Common.{◌≡◌, ◌≢◌, ℕ, zero, suc, ◌<◌, false, if◌then◌else◌, List, [], ◌∷◌, ◌++◌, drop, take, length, get_or, codes, refl, sym, ◌∙◌, ap, subst, ⊎_elim, arith, append_assoc, length-append}
+use Rattle.std.proofs.Common.{◌≡◌, ◌≢◌, ℕ, zero, suc, ◌<◌, false, if◌then◌else◌, List, [], ◌∷◌, ◌++◌, drop, take, length, get_or, codes, refl, sym, ◌∙◌, ap, subst, ⊎_elim, arith, append_assoc, length-append, append-nil, true}
 use Rattle.std.specs.Str.{bytes_eq}
-use Rattle.std.proofs.lemmas.Bool.{cases_eq, ne_eqb}
+use Rattle.std.proofs.lemmas.Bool.{cases_eq, cases_lt, ne_eqb}
+use Rattle.std.proofs.lemmas.List.{get_or_past}
+use Rattle.std.proofs.Math.Seq.{drop-cons}
 use Rattle.html_names.specs.Escape.{spelling_of, escaped, begins_badly}
 
 -- A byte is one of the five that have replacements, or another.
@@ -81,3 +83,26 @@ escaped_injective (x ∷ xs) (y ∷ ys) e =
     let same : x ≡ y = sym (byte_at_front_is (escaped xs) x) ∙ (ap byte_at_front e ∙ byte_at_front_is (escaped ys) y) in
     let rest : escaped xs ≡ escaped ys = same_front (spelling_of x) (escaped xs) (escaped ys) (e ∙ ap (λ b. spelling_of b ++ escaped ys) (sym same)) in
     cc (same, escaped_injective xs ys rest)
+
+true_not_false : true ≡ false → ⊥
+true_not_false e = cc
+
+-- A byte that is bad wherever it stands is in no escaped text.
+pub absent_byte : (m : ℕ) → 0 < m → ((bs : List ℕ) → begins_badly (m ∷ bs) ≡ true) → (text : List ℕ) (k : ℕ) → get_or (escaped text) k 0 ≢ m
+absent_byte m some bad text k e =
+    let all : List ℕ = escaped text in
+    let inside : k < length all → ⊥ = λ l.
+    let good : begins_badly (drop k all) ≡ false = subst (λ bs. begins_badly (drop k bs) ≡ false) (append-nil all) (escaped_clean text [] k l) in
+    let here : drop k all ≡ m ∷ drop (suc k) all = drop-cons all k 0 l ∙ ap (λ b. b ∷ drop (suc k) all) e in
+    true_not_false (sym (bad (drop (suc k) all)) ∙ (ap begins_badly (sym here) ∙ good)) in
+    ⊎_elim inside (λ past. let none : get_or all k 0 ≡ 0 = get_or_past all k 0 past in omega arith) (cases_lt k (length all))
+
+-- The four marks stand in no escaped text.
+pub escaped_unmarked : (text : List ℕ) (k : ℕ) →
+    (get_or (escaped text) k 0 ≢ 34) × (get_or (escaped text) k 0 ≢ 39) × (get_or (escaped text) k 0 ≢ 60) × (get_or (escaped text) k 0 ≢ 62)
+escaped_unmarked text k = (
+  absent_byte 34 (omega arith) (λ bs. refl) text k,
+  absent_byte 39 (omega arith) (λ bs. refl) text k,
+  absent_byte 60 (omega arith) (λ bs. refl) text k,
+  absent_byte 62 (omega arith) (λ bs. refl) text k,
+)

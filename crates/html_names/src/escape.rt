@@ -1,6 +1,6 @@
 //! Escaping of text and of attributes' values, and its inverse.
 
-ghost use Rattle.std.specs.Prelude.{◌≡◌, ◌++◌, ◌⊎◌, ◌↔◌, ◌<◌, ◌≤◌, ℕ, Bool, true, false, List, [], if◌then◌else◌, is_ok, length, take, drop, IfOk, IfErr, OnOk, OnErr, MatchOption};
+ghost use Rattle.std.specs.Prelude.{◌≡◌, ◌≢◌, ◌++◌, ◌⊎◌, ◌↔◌, ◌<◌, ◌≤◌, ℕ, Bool, true, false, List, [], if◌then◌else◌, is_ok, length, take, drop, slice_index, IfOk, IfErr, OnOk, OnErr, MatchOption};
 ghost use Rattle.std.specs.Str.{IsUtf8};
 ghost use Rattle.html_names.specs.Escape.{spelling_of, escaped, begins_badly, begins_entity, IsClean, IsEscaped, IsEscapedFront, IsTextAndOpen};
 ghost use Rattle.html_names.specs.Faults.{HasCause};
@@ -146,12 +146,14 @@ fn split_entity(rest: &[u8]) -> Option<(u8, &[u8])>
 }
 
 /// Laws of escaping: one text for one spelling, piece by piece, UTF-8 for UTF-8, no bad place in an
-/// escaped text, whatever follows it, and what begins an escaped text.
+/// escaped text, whatever follows it, no `"`, `'`, `<` and `>` in it, and what begins an escaped text.
 pub fn laws_of_escaping()
     ensures one { (a b : List ℕ) → escaped a ≡ escaped b → a ≡ b }
     ensures joined { (a b : List ℕ) → escaped (a ++ b) ≡ escaped a ++ escaped b }
     ensures utf8 { (text : List ℕ) → IsUtf8 text ↔ IsUtf8 (escaped text) }
     ensures clean { (bytes : List ℕ) → IsClean bytes ↔ IsEscaped bytes }
     ensures inside { (text more : List ℕ) (k : ℕ) → k < length (escaped text) → begins_badly (drop k (escaped text ++ more)) ≡ false }
+    ensures unmarked { (text : List ℕ) (k : ℕ) → (slice_index (escaped text) k ≢ 34) × (slice_index (escaped text) k ≢ 39)
+        × (slice_index (escaped text) k ≢ 60) × (slice_index (escaped text) k ≢ 62) }
     ensures front { (bytes : List ℕ) → IsEscapedFront bytes ↔ IsTextAndOpen bytes }
 {}
