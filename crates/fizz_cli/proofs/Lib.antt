@@ -1,0 +1,6 @@
+pub mod Attributes
+pub mod Causes
+pub mod LexemeLists
+pub mod LongestRuns
+pub mod Tags
+pub mod Trees

@@ -1,0 +1,11 @@
+pub mod Commands
+pub mod Endings
+pub mod LexemeViews
+pub mod Lexemes
+pub mod Notes
+pub mod Page
+pub mod Refusals
+pub mod Runs
+pub mod Source
+pub mod Statuses
+pub mod Words

@@ -1,0 +1,61 @@
+ghost use Rattle.std.specs.Prelude.{◌≡◌};
+ghost use Rattle.fizz_cli.specs.Commands.{app_name, script_name, standard_options};
+
+use fizz_text::Text;
+
+/// What one call of fizz is to do.
+#[derive(Debug, Drop)]
+pub enum Command {
+    /// Renders a component file under a settling script to the output. `workers` is 0 to 16; with 0 the page is
+    /// rendered on the calling thread.
+    Render {
+        app: Text,
+        script: Text,
+        options: Options,
+        workers: u32,
+    },
+}
+
+/// How a page is rendered.
+#[derive(Debug, Drop)]
+pub struct Options {
+    /// What stands before each id of the renderer's own. At most 64 bytes.
+    pub prefix: Text,
+    /// A boundary of more bytes than these is sent by itself.
+    pub progressive: u32,
+    /// How many bytes go to the output at once. At least 1.
+    pub chunk: u32,
+}
+
+impl Options {
+    /// No prefix, 12,800 bytes of a boundary, and 2,048 bytes at once.
+    pub fn standard() -> Options
+        ensures { result ≡ standard_options }
+    {
+        Options {
+            prefix: Text::fixed(""),
+            progressive: 12_800,
+            chunk: 2_048,
+        }
+    }
+}
+
+impl Command {
+    /// The name of the component file.
+    pub fn app(&self) -> &Text
+        ensures { result.now ≡ app_name self.now }
+    {
+        match self {
+            Command::Render { app, .. } => app,
+        }
+    }
+
+    /// The name of the settling script.
+    pub fn script(&self) -> &Text
+        ensures { result.now ≡ script_name self.now }
+    {
+        match self {
+            Command::Render { script, .. } => script,
+        }
+    }
+}

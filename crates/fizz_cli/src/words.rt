@@ -1,0 +1,55 @@
+ghost use Rattle.std.specs.Prelude.{◌≡◌, ◌≢◌, Some, None, IfOk, map, Err};
+ghost use Rattle.fizz_cli.specs.Commands.{command_of};
+ghost use Rattle.fizz_cli.specs.Notes.{usage_note};
+ghost use Rattle.fizz_cli.specs.declared.words.WordsFault.TheVariants.{OutOfMemory as Memory};
+ghost use Rattle.fizz_cli.specs.Words.{HasWordsCause};
+
+use crate::command::{Command, Options};
+use fizz_text::{OutOfMemory, Text};
+use std::alloc::Global;
+
+/// Why words are no command.
+#[derive(Debug, Drop)]
+pub enum WordsFault {
+    /// They aren't a command and its names. The text says so, in a line.
+    Usage { text: Text },
+    OutOfMemory,
+}
+
+impl From<OutOfMemory> for WordsFault {
+    ghost from_gives = { λ _ e. e ≡ Memory };
+
+    fn from(_e: OutOfMemory) -> WordsFault {
+        WordsFault::OutOfMemory
+    }
+}
+
+/// The command that the words after the program's name mean: `render` and the names of a component file and of a
+/// script. All else is `Usage`.
+pub fn read_words(alloc: Global, words: &[Text]) -> Result<Command, WordsFault>
+    ensures meant { IfOk result (λ command. command_of words.now ≡ Some command) }
+    ensures refused { HasWordsCause words.now result }
+{
+    let [word, app, script] = words else {
+        return Err(usage());
+    };
+    if word.as_bytes() != b"render".as_slice() {
+        return Err(usage());
+    }
+    let app = app.copy(alloc)?;
+    let script = script.copy(alloc)?;
+    Ok(Command::Render {
+        app,
+        script,
+        options: Options::standard(),
+        workers: 0,
+    })
+}
+
+fn usage() -> WordsFault
+    ensures { result ≡ WordsFault.Usage usage_note }
+{
+    WordsFault::Usage {
+        text: Text::fixed("usage\n"),
+    }
+}

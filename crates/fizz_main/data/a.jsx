@@ -1,0 +1,1 @@
+function App() { return <div className="a">Hi</div>; }
