@@ -1,0 +1,11 @@
+pub mod Scanning
+pub mod Runs
+pub mod Parts
+pub mod Strings
+pub mod Comments
+pub mod Numbers
+pub mod Signs
+pub mod Forms
+pub mod Finding
+pub mod Readings
+pub mod WordForms

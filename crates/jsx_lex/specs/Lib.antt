@@ -1,0 +1,13 @@
+pub mod Characters
+pub mod ModeStack
+pub mod SignTable
+pub mod StringParts
+pub mod Words
+pub mod Lexemes
+pub mod TokenLists
+pub mod FaultTable
+pub mod Reading
+pub mod Classes
+pub mod ModesView
+pub mod SignRows
+pub mod TokenWords
