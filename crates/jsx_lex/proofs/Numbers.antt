@@ -5,11 +5,11 @@ use Rattle.std.proofs.lemmas.List.{take_at, drop_at, take-append-drop, nil_from_
 use Rattle.std.proofs.lemmas.List.Folds.{length-prefix_len}
 use Rattle.std.specs.List.{list_all, prefix_len}
 use Rattle.std.specs.Char.{is_ascii_digit}
-use Rattle.std.specs.Str.Parse.{digits_value}
+use Rattle.std.specs.Str.Parse.{digits_value, AllDigits}
 use Rattle.jsx_lex.specs.Characters.{is_number_follower, is_name_part, is_name_start, Ends}
 use Rattle.jsx_lex.specs.Words.{IsDigits, IsNumber}
 use Rattle.jsx_lex.specs.Reading.{shifted, ends, is_numeral, digits_len, number_len}
-use Rattle.jsx_lex.proofs.Scanning.{list_all-run}
+use Rattle.jsx_lex.proofs.Scanning.{list_all-run, AllDigits-from_test}
 use Rattle.jsx_lex.proofs.Runs.{prefix_len-run}
 
 digits_end : (after : List ℕ) → Ends is_number_follower after → Ends is_ascii_digit after
@@ -172,3 +172,14 @@ number_len-sound (b ∷ bs) n e = by_minus (nat_eq b 45) refl
           ends = d.ends;
           length_is = d.length_is;
         }
+
+-- the digits of a number
+pub digits_after : (word : List ℕ) → IsNumber word → get_or word 0 0 ≡ 45 → AllDigits 10 (drop 1 word)
+digits_after [] h e = absurd h
+digits_after (b ∷ bs) (inl h) e = let k = digit_no_minus b bs h.0 in let j = eq-eqb b 45 e in absurd cc
+digits_after (b ∷ bs) (inr h) e = AllDigits-from_test bs (all_digits bs h.1)
+
+pub digits_whole : (word : List ℕ) → IsNumber word → (get_or word 0 0 ≡ 45 → ⊥) → AllDigits 10 word
+digits_whole [] h e = absurd h
+digits_whole (b ∷ bs) (inl h) e = AllDigits-from_test (b ∷ bs) h.0.0
+digits_whole (b ∷ bs) (inr h) e = absurd (e h.0)

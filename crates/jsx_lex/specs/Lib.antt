@@ -11,3 +11,9 @@ pub mod Classes
 pub mod ModesView
 pub mod SignRows
 pub mod TokenWords
+pub mod References
+pub mod Cleaning
+pub mod Meanings
+pub mod ReferenceRows
+pub mod PartBytes
+pub mod LineJoining

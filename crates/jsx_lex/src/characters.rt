@@ -4,6 +4,7 @@ ghost use Rattle.std.specs.Prelude.{◌≡◌, ◌≤◌, length};
 ghost use Rattle.std.specs.List.{prefix_len};
 ghost use Rattle.jsx_lex.specs.Characters as spec;
 ghost use Rattle.jsx_lex.specs.Classes.{class_test};
+ghost use Rattle.jsx_lex.specs.Cleaning.{is_blank};
 
 pub(crate) fn is_space(byte: u8) -> bool
     ensures { result ≡ spec.is_space byte }
@@ -41,6 +42,12 @@ pub(crate) fn is_quote(byte: u8) -> bool
     byte == b'"' || byte == b'\''
 }
 
+pub(crate) fn is_blank(byte: u8) -> bool
+    ensures { result ≡ is_blank byte }
+{
+    byte == b' ' || byte == b'\t' || byte == b'\r'
+}
+
 pub(crate) fn is_jsx_text(byte: u8) -> bool
     ensures { result ≡ spec.is_jsx_text byte }
 {
@@ -51,6 +58,9 @@ pub(crate) fn is_jsx_text(byte: u8) -> bool
 #[derive(Clone, Copy)]
 pub(crate) enum Class {
     Digit,
+    DecimalDigit,
+    HexadecimalDigit,
+    Blank,
     NamePart,
     TagNamePart,
     InLine,
@@ -63,6 +73,9 @@ fn is_in(class: Class, byte: u8) -> bool
 {
     match class {
         Class::Digit => byte.is_ascii_digit(),
+        Class::DecimalDigit => (byte as char).is_digit(10),
+        Class::HexadecimalDigit => (byte as char).is_digit(16),
+        Class::Blank => is_blank(byte),
         Class::NamePart => is_name_part(byte),
         Class::TagNamePart => is_name_part(byte) || byte == b'-',
         Class::InLine => byte != b'\n',

@@ -7,18 +7,24 @@
 #![tactic(auto)]
 
 mod characters;
+mod clean;
 mod fault;
 mod laws;
 mod lexeme;
 mod lexer;
+mod meaning;
 mod mode;
 mod number;
+mod reference;
 mod sign;
 mod string;
+#[cfg(test)]
+mod tests;
 mod token;
 
 pub use fault::{LexFault, LexKind};
 pub use laws::{one_fault, one_token_list, token_words, tokens_or_fault};
 pub use lexer::lex;
+pub use meaning::{decode_string, decode_tag_string, decode_text, number_value};
 pub use mode::{Change, Mode};
 pub use token::{Token, TokenKind};

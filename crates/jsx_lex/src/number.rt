@@ -62,7 +62,7 @@ fn is_followed(after: &[u8]) -> bool
 }
 
 /// The value of digits, or `None` where it isn't a u64.
-fn value_of(digits: &[u8]) -> Option<u64>
+pub(crate) fn value_of(digits: &[u8]) -> Option<u64>
     requires some { 0 < length digits.now }
     requires digits { AllDigits 10 digits.now }
     ensures { SomeIff result (digits_value 10 digits.now < 2 ^ 64) (digits_value 10 digits.now) }

@@ -1,8 +1,12 @@
 //! The strings of Code.
 
-ghost use Rattle.std.specs.Prelude.{◌≡◌, ◌+◌, ◌<◌, ◌≤◌, length, IfSome};
+ghost use Rattle.std.specs.Prelude.{◌≡◌, ◌+◌, ◌<◌, ◌≤◌, length, IfSome, OnOk, ◌++◌};
 ghost use Rattle.jsx_lex.specs.Reading as spec;
 ghost use Rattle.jsx_lex.specs.StringParts.{escape_value};
+ghost use Rattle.jsx_lex.specs.PartBytes.{bytes_of};
+
+use crate::reference::push_character;
+use std::alloc::AllocError;
 
 /// What a part of a string stands for.
 #[derive(Clone, Copy)]
@@ -105,4 +109,17 @@ pub(crate) fn string_len(quote: u8, rest: &[u8]) -> Option<usize>
         at += part.length;
     }
     None
+}
+
+/// Puts what a part stands for at the end.
+pub(crate) fn push_meaning(out: &mut Vec<u8>, meaning: Meaning) -> Result<(), AllocError>
+    ensures { OnOk result (out.new.items ≡ out.old.items ++ bytes_of meaning) }
+{
+    match meaning {
+        Meaning::Byte(byte) => {
+            out.push(byte)?;
+        }
+        Meaning::Character(character) => push_character(out, character)?,
+    }
+    Ok(())
 }
