@@ -44,7 +44,7 @@ some_name (name ∷ names) h = λ e. no_name name names e
     no_name name names e = cc
 
 -- after a text, which stands within an element, the row goes on
-longest_text : (names : List (List ℕ)) (after_text : Bool) (y : Lexeme) (ys : List Lexeme) (tail : List ℕ) → Follows names after_text (y ∷ ys) →
+pub longest_text : (names : List (List ℕ)) (after_text : Bool) (y : Lexeme) (ys : List Lexeme) (tail : List ℕ) → Follows names after_text (y ∷ ys) →
     is_words y ≡ true → Ends is_text_byte (lexemes_bytes ys tail)
 longest_text names after_text (words t) ys tail f is =
     ends_text names ys tail (goes_in names ys (Follows names true ys) (some_name names (both (nat_lt 0 (length names)) (not after_text) f.1).0) f.2)

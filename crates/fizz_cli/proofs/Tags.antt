@@ -14,7 +14,7 @@ found_is bytes y rest here x more h = subst (λ (p : Lexeme × List ℕ). Begins
 
 -- texts
 
-text_run : (bytes t more : List ℕ) → BeginsWith bytes (words t) more → IsRun is_text_byte bytes t more
+pub text_run : (bytes t more : List ℕ) → BeginsWith bytes (words t) more → IsRun is_text_byte bytes t more
 text_run bytes t more b = record { split = b.spelled; passes = b.is.1; ends = b.longest refl }
 
 pub no_text : (bytes text more : List ℕ) → IsRun is_text_byte bytes text more → text ≡ [] → IsTextAt bytes None
@@ -66,7 +66,7 @@ end_found bytes name more run = record {
 
 -- start tags and elements that are closed in their own tag
 
-attributes_end_name : (ws : List Written) (more : List ℕ) → Ends is_name_byte more → Ends is_name_byte (attributes_bytes ws more)
+pub attributes_end_name : (ws : List Written) (more : List ℕ) → Ends is_name_byte more → Ends is_name_byte (attributes_bytes ws more)
 attributes_end_name [] more ends = ends
 attributes_end_name (w ∷ ws) more ends = refl
 
@@ -79,24 +79,24 @@ pub record IsTag (bytes : List ℕ) (x : Lexeme) (more : List ℕ) (name : List 
   pub closes : ((x ≡ whole name ws) × (after ≡ codes "/>" ++ more))
       ⊎ ((x ≡ start name ws) × (after ≡ codes ">" ++ more) × (void_flag name ≡ Some false))
 
-no_space_62 : (more : List ℕ) → EndsAttributes (codes ">" ++ more)
+pub no_space_62 : (more : List ℕ) → EndsAttributes (codes ">" ++ more)
 no_space_62 more rest h = let e : ◌≡◌ {A = ℕ} 62 32 = cons_first 62 32 more rest h in absurd (omega arith)
 
-no_space_47 : (more : List ℕ) → EndsAttributes (codes "/>" ++ more)
+pub no_space_47 : (more : List ℕ) → EndsAttributes (codes "/>" ++ more)
 no_space_47 more rest h = let e : ◌≡◌ {A = ℕ} 47 32 = cons_first 47 32 (62 ∷ more) rest h in absurd (omega arith)
 
-some_flag : (o : Option Bool) → is_some o ≡ true → (flag : Bool) × (o ≡ Some flag)
+pub some_flag : (o : Option Bool) → is_some o ≡ true → (flag : Bool) × (o ≡ Some flag)
 some_flag None h = absurd (opposite false h refl)
 some_flag (Some flag) h = (flag, refl)
 
-element_passes : (name : List ℕ) → IsElementName name → is_name name ≡ true
+pub element_passes : (name : List ℕ) → IsElementName name → is_name name ≡ true
 element_passes name known = let flag = some_flag (void_flag name) known in element_is_name name flag.0 flag.1
 
-some_known : (name : List ℕ) (flag : Bool) → void_flag name ≡ Some flag → IsElementName name
+pub some_known : (name : List ℕ) (flag : Bool) → void_flag name ≡ Some flag → IsElementName name
 some_known name flag is = ap is_some is
 
 -- a text begins with no `<`
-no_text_here : (t bytes more : List ℕ) → 60 ∷ bytes ≡ t ++ more → t ≢ [] → list_all is_text_byte t ≡ true → ⊥
+pub no_text_here : (t bytes more : List ℕ) → 60 ∷ bytes ≡ t ++ more → t ≢ [] → list_all is_text_byte t ≡ true → ⊥
 no_text_here [] bytes more spelled some passes = some refl
 no_text_here (b ∷ bs) bytes more spelled some passes =
     opposite (is_text_byte b) (both (is_text_byte b) (list_all is_text_byte bs) passes).0
@@ -249,7 +249,7 @@ no_close bytes name rest ws after flag run known found no_slash no_end =
 
 -- the lexeme at the front, by how it begins
 
-no_slash_name : (name : List ℕ) (bytes more : List ℕ) → is_name name ≡ true → 47 ∷ bytes ≡ name ++ more → ⊥
+pub no_slash_name : (name : List ℕ) (bytes more : List ℕ) → is_name name ≡ true → 47 ∷ bytes ≡ name ++ more → ⊥
 no_slash_name [] bytes more is spelled = opposite false is refl
 no_slash_name (b ∷ bs) bytes more is spelled =
     opposite (is_name_byte b) (both (is_name_byte b) (list_all is_name_byte bs) is).0 (ap is_name_byte (sym (cons_first 47 b bytes (bs ++ more) spelled)))

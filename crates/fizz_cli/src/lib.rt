@@ -11,7 +11,7 @@ mod top;
 mod words;
 
 pub use command::{Command, Options};
-pub use page::page_html;
+pub use page::{one_page, page_html};
 pub use refusal::{Input, Refusal};
 pub use top::{fizz, fizz_inline};
 pub use words::{WordsFault, read_words};

@@ -3,7 +3,7 @@
 mod lexeme;
 mod runs;
 
-ghost use Rattle.std.specs.Prelude.{◌≡◌, ◌↔◌, [], IsTrue, IfOk, OnOk, MatchOption, codes, length, nat_lt};
+ghost use Rattle.std.specs.Prelude.{◌≡◌, ◌↔◌, [], IsTrue, IfOk, OnOk, MatchOption, List, codes, length, nat_lt, ℕ};
 ghost use Rattle.fizz_cli.specs.Page.{Page, IsDocument, html};
 ghost use Rattle.fizz_cli.specs.Source.{Source, IsPageFile, IsBody, most_open, page_of};
 ghost use Rattle.fizz_cli.specs.Lexemes.{is_innermost, is_words, may_follow, opened};
@@ -135,3 +135,8 @@ fn turn<'a>(names: &mut Vec<&'a [u8]>, lexeme: &Lexeme<'a>) -> Result<(), OutOfM
     }
     Ok(())
 }
+
+/// A law of literal pages: a file means one page at most.
+pub fn one_page()
+    ensures { (file : List ℕ) (page other : Page) → IsPageFile file page → IsPageFile file other → page ≡ other }
+{}

@@ -162,9 +162,10 @@ fn pages_are_printed(rt: HostRuntime) -> Result<(), Fail> {
     let alloc = rt.alloc();
     for (source, html) in PAGES.iter() {
         let file = format!(in alloc; "function App() {{ return {source}; }}\n")?;
-        let page = page_html(alloc, file.as_bytes())?;
-        let printed = page.as_ref().map(|bytes| bytes.as_slice());
-        assert!(rt; printed == Some(html.as_bytes()), "{source}");
+        match page_html(alloc, file.as_bytes())? {
+            Some(page) => assert_eq!(rt; page.as_slice(), html.as_bytes(), "{source}"),
+            None => assert!(rt; false, "refused: {source}"),
+        }
     }
     Ok(())
 }
@@ -396,22 +397,20 @@ fn run_fizz<R: Threads + Wait + Sync>(
     rt: &R,
     alloc: Global,
     words: &[&'static str],
-    files: [(&'static str, Vec<u8>); 2],
-    fails: [&[u32]; 3],
+    app: Vec<u8>,
+    script: Vec<u8>,
+    fails: &[&'static [u32]; 3],
 ) -> Result<(u8, MemorySink, MemorySink), AllocError> {
     let mut texts = Vec::new(alloc);
     for word in words {
         texts.push(Text::fixed(*word))?;
     }
-    let [(app, app_bytes), (script, script_bytes)] = files;
-    let entries = vec![in alloc;
-        (Text::fixed(app), app_bytes),
-        (Text::fixed(script), script_bytes),
-    ]?;
-    let [files_fail, out_fail, notes_fail] = fails;
-    let mut files = MemoryFiles::new(alloc, entries, files_fail.to_vec(alloc)?);
-    let mut out = MemorySink::new(alloc, out_fail.to_vec(alloc)?);
-    let mut notes = MemorySink::new(alloc, notes_fail.to_vec(alloc)?);
+    let mut entries = Vec::new(alloc);
+    entries.push((Text::fixed("a.jsx"), app))?;
+    entries.push((Text::fixed("s.json"), script))?;
+    let mut files = MemoryFiles::new(alloc, entries, fails[0].to_vec(alloc)?);
+    let mut out = MemorySink::new(alloc, fails[1].to_vec(alloc)?);
+    let mut notes = MemorySink::new(alloc, fails[2].to_vec(alloc)?);
     let status = fizz(
         rt, alloc, &texts, &mut files, &mut out, &mut notes, &OpenGate,
     );
@@ -421,15 +420,13 @@ fn run_fizz<R: Threads + Wait + Sync>(
 #[test]
 fn calls_end_with_their_status(rt: HostRuntime) -> Result<(), Fail> {
     let alloc = rt.alloc();
-    for (index, row) in CALLS.iter().enumerate() {
-        let files = [
-            ("a.jsx", row.app.to_vec(alloc)?),
-            ("s.json", row.script.to_vec(alloc)?),
-        ];
-        let (status, out, notes) = run_fizz(&rt, alloc, row.words, files, row.fails)?;
-        assert_eq!(rt; status, row.status, "call {index}");
-        assert_eq!(rt; out.bytes(), row.out.as_bytes(), "call {index}");
-        assert_eq!(rt; notes.bytes(), row.notes.as_bytes(), "call {index}");
+    for row in CALLS.iter() {
+        let app = row.app.to_vec(alloc)?;
+        let script = row.script.to_vec(alloc)?;
+        let (status, out, notes) = run_fizz(&rt, alloc, row.words, app, script, &row.fails)?;
+        assert_eq!(rt; status, row.status);
+        assert_eq!(rt; out.bytes(), row.out.as_bytes());
+        assert_eq!(rt; notes.bytes(), row.notes.as_bytes());
     }
     Ok(())
 }
@@ -438,24 +435,15 @@ fn calls_end_with_their_status(rt: HostRuntime) -> Result<(), Fail> {
 fn long_files_are_refused(rt: HostRuntime) -> Result<(), Fail> {
     let alloc = rt.alloc();
     let words = ["render", "a.jsx", "s.json"];
+    let never: [&'static [u32]; 3] = [&[], &[], &[]];
     let long = vec![in alloc; b' '; 262_145]?;
-    let (status, _, notes) = run_fizz(
-        &rt,
-        alloc,
-        &words,
-        [("a.jsx", long), ("s.json", b"[]".to_vec(alloc)?)],
-        [&[], &[], &[]],
-    )?;
+    let script = b"[]".to_vec(alloc)?;
+    let (status, _, notes) = run_fizz(&rt, alloc, &words, long, script, &never)?;
     assert_eq!(rt; status, 4);
     assert_eq!(rt; notes.bytes(), b"a.jsx: TooLong most=262144\n".as_slice());
     let long = vec![in alloc; b' '; 16_777_217]?;
-    let (status, _, notes) = run_fizz(
-        &rt,
-        alloc,
-        &words,
-        [("a.jsx", PAGE.to_vec(alloc)?), ("s.json", long)],
-        [&[], &[], &[]],
-    )?;
+    let app = PAGE.to_vec(alloc)?;
+    let (status, _, notes) = run_fizz(&rt, alloc, &words, app, long, &never)?;
     assert_eq!(rt; status, 4);
     assert_eq!(rt;
         notes.bytes(),
@@ -473,10 +461,9 @@ fn a_command_is_served_on_one_thread(rt: HostRuntime) -> Result<(), Fail> {
         options: Options::standard(),
         workers: 0,
     };
-    let entries = vec![in alloc;
-        (Text::fixed("a.jsx"), PAGE.to_vec(alloc)?),
-        (Text::fixed("s.json"), b"[]".to_vec(alloc)?),
-    ]?;
+    let mut entries = Vec::new(alloc);
+    entries.push((Text::fixed("a.jsx"), PAGE.to_vec(alloc)?))?;
+    entries.push((Text::fixed("s.json"), b"[]".to_vec(alloc)?))?;
     let mut files = MemoryFiles::new(alloc, entries, Vec::new(alloc));
     let mut out = MemorySink::new(alloc, Vec::new(alloc));
     let mut notes = MemorySink::new(alloc, Vec::new(alloc));
