@@ -1,0 +1,17 @@
+pub mod WordFronts
+pub mod Encode
+pub mod Utf8
+pub mod Chars
+pub mod Runs
+pub mod Fits
+pub mod Running
+pub mod Passing
+pub mod Living
+pub mod Beginning
+pub mod Standing
+pub mod Quotes
+pub mod FaultKinds
+pub mod Built
+pub mod Walking
+pub mod Finishing
+pub mod Unique

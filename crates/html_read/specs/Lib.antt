@@ -1,0 +1,7 @@
+pub mod Names
+pub mod Tokens
+pub mod Faults
+pub mod Machine
+pub mod Building
+pub mod Scanning
+pub mod Reading

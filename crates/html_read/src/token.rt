@@ -1,0 +1,81 @@
+//! The tokens of a printed page.
+
+ghost use Rattle.std.specs.Prelude.{◌≡◌};
+
+use fizz_text::{Attributes, Text};
+use std::marker::Model;
+
+/// What a comment says: `$`, `$?`, `$!` and `/$` mark the boundaries of a page, a space stands between two texts.
+#[derive(Clone, Copy, Debug, PartialEq, Eq, Drop)]
+pub enum Said {
+    Complete,
+    Pending,
+    Client,
+    End,
+    Space,
+}
+
+/// A token. `from` is the place of its first byte in the stream, texts and values are unescaped.
+#[derive(Debug, Drop)]
+pub enum Tok {
+    /// `<name attributes>`
+    Start {
+        name: Text,
+        attributes: Attributes,
+        from: usize,
+    },
+    /// `</name>`
+    End {
+        name: Text,
+        from: usize,
+    },
+    /// `<name attributes/>`, of a void element alone
+    Void {
+        name: Text,
+        attributes: Attributes,
+        from: usize,
+    },
+    /// What stands between two other tokens.
+    Text {
+        text: Text,
+        from: usize,
+    },
+    /// `<!--`, what is said, `-->`
+    Comment {
+        which: Said,
+        from: usize,
+    },
+    /// `<script>`, the body, `</script>`
+    Script {
+        body: Body,
+        from: usize,
+    },
+}
+
+/// The bytes between `<script>` and `</script>`. Contracts see them as a list.
+#[derive(Debug, Drop)]
+pub struct Body {
+    bytes: Vec<u8>,
+}
+
+impl Model for Body {
+    ghost use Rattle.std.specs.Prelude.{List, ℕ};
+
+    ghost Value = { List ℕ };
+
+    ghost view = { λ b. b.bytes.items };
+}
+
+impl Body {
+    pub(crate) fn new(bytes: Vec<u8>) -> Body
+        ensures { result ≡ bytes.items }
+    {
+        Body { bytes }
+    }
+
+    pub fn as_bytes(&self) -> &[u8]
+        ensures { result.now ≡ self.now }
+    {
+        self.bytes.as_slice()
+    }
+}
