@@ -1,9 +1,9 @@
 -- Bytes are one list of tokens.
-use Rattle.std.proofs.Common.{◌≡◌, ◌≢◌, ℕ, zero, suc, ◌+◌, ◌<◌, ◌≤◌, Bool, true, false, if◌then◌else◌, cond, not, nat_eq, ◌==◌, ◌⊎◌, Option, Some, None, List, [], ◌∷◌, ◌++◌, length, drop, take, codes, refl, sym, ◌∙◌, ap, subst, ⊎_elim, arith, append-nil, append_assoc, length-append}
+use Rattle.std.proofs.Common.{◌≡◌, ◌≢◌, ℕ, suc, ◌+◌, ◌<◌, Bool, true, false, if◌then◌else◌, not, nat_eq, ◌==◌, Option, Some, None, List, [], ◌∷◌, ◌++◌, length, drop, take, codes, refl, sym, ◌∙◌, ap, subst, ⊎_elim, arith, append-nil, append_assoc, length-append}
 use Rattle.std.specs.List.{list_all, starts_with}
-use Rattle.std.specs.Str.{IsUtf8, bytes_eq}
-use Rattle.std.proofs.lemmas.Bool.{cond-true, cond-false, cases_Bool, ne_eqb, eqb-false, and_left, and_parts, and_from, false_from_ne_true, true≢false}
-use Rattle.std.proofs.lemmas.List.{append_cancel_right, append_cancel_left, take_at, drop_at}
+use Rattle.std.specs.Str.{bytes_eq}
+use Rattle.std.proofs.lemmas.Bool.{cond-true, cases_Bool, ne_eqb, eqb-false, and_left, and_parts, and_from, false_from_ne_true}
+use Rattle.std.proofs.lemmas.List.{append_cancel_right, append_cancel_left, take_at}
 use Rattle.fizz_text.specs.declared.attribute.Attr.{Attr}
 use Rattle.html_names.specs.Escape.{spelling_of, escaped}
 use Rattle.html_names.proofs.Escaping.{each_byte, plain_spelling, escaped_injective, spelling_some}
@@ -16,7 +16,7 @@ use Rattle.html_read.specs.declared.machine.Mode.TheVariants as modes
 use Rattle.html_read.specs.declared.machine.Turn.{Turn}
 use Rattle.html_read.specs.declared.machine.Turn.TheVariants.{Goes, Ends, Cuts, Fails}
 use Rattle.html_read.specs.Names.{continues_attribute_name, IsTagName}
-use Rattle.html_read.specs.Tokens.{written_value, written_attribute, written_attributes, IsAttribute, AreAttributes, tag_front, said, script_end, spelling, spellings, IsTok, AreTokensFrom, AreTokens, MayFollow, Tokenizes, place_of, is_text}
+use Rattle.html_read.specs.Tokens.{written_value, written_attribute, written_attributes, IsAttribute, AreAttributes, tag_front, said, script_end, spelling, spellings, IsTok, AreTokensFrom, MayFollow, Tokenizes, place_of, is_text}
 use Rattle.html_read.specs.Faults.{begins_tag}
 use Rattle.html_read.specs.Building.{front_len, IsTokenOf, EndsAttribute, EndsTag, IsTagOf}
 use Rattle.html_read.specs.Machine.{go_on, mode_after}
@@ -189,10 +189,10 @@ ends_through mode next seen [] ys e = (λ i. ends_len (some_mode mode next e i) 
 ends_through mode next seen (b ∷ xs) ys e =
     let go : (t : Turn) → go_on t (λ m. mode_after m (seen ++ b ∷ []) xs) ≡ Some next → len_on t (λ m. ends_len m (seen ++ b ∷ []) (xs ++ ys)) ≡ length (b ∷ xs) + ends_len next (seen ++ b ∷ xs) ys = λ t.
     elim t as (λ t. go_on t (λ m. mode_after m (seen ++ b ∷ []) xs) ≡ Some next → len_on t (λ m. ends_len m (seen ++ b ∷ []) (xs ++ ys)) ≡ length (b ∷ xs) + ends_len next (seen ++ b ∷ xs) ys) [
-      Goes m ↦ λ h. ap suc (ends_through m next (seen ++ b ∷ []) xs ys h ∙ ap (λ s. length xs + ends_len next s ys) (append_assoc seen (b ∷ []) xs)) ∙ omega arith
-    | Ends ↦ λ h. absurd (none_mode next h)
-    | Cuts ↦ λ h. absurd (none_mode next h)
-    | Fails k ↦ λ h. absurd (none_mode next h)
+      | Goes m ↦ λ h. ap suc (ends_through m next (seen ++ b ∷ []) xs ys h ∙ ap (λ s. length xs + ends_len next s ys) (append_assoc seen (b ∷ []) xs)) ∙ omega arith
+      | Ends ↦ λ h. absurd (none_mode next h)
+      | Cuts ↦ λ h. absurd (none_mode next h)
+      | Fails k ↦ λ h. absurd (none_mode next h)
     ] in
     go (turn_at mode seen b) e
 

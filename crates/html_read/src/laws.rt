@@ -9,5 +9,4 @@ ghost use Rattle.html_read.specs.Tokens.{Tokenizes};
 pub fn laws_of_tokens()
     ensures one { (bytes : List ℕ) (a b : List Token) → Tokenizes bytes a → Tokenizes bytes b → a ≡ b }
     ensures alive { (bytes : List ℕ) (toks : List Token) (rest : List ℕ) → Splits bytes toks rest → IsAlive bytes }
-{
-}
+{}

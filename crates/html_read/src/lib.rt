@@ -7,6 +7,8 @@ mod laws;
 mod machine;
 mod place;
 mod reader;
+#[cfg(test)]
+mod tests;
 mod token;
 mod walk;
 mod words;
