@@ -1,1 +1,10 @@
+pub mod Documents
+pub mod Flattening
+pub mod Focus
+pub mod Located
+pub mod Neighbours
 pub mod OpenElements
+pub mod Parts
+pub mod Renumbering
+pub mod Roots
+pub mod There

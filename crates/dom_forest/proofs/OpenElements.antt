@@ -1,7 +1,7 @@
 -- What the open elements of a printer still print, and how much work they leave.
-use Rattle.std.proofs.Common.{◌≡◌, ℕ, ◌+◌, ◌<◌, Bool, true, false, if◌then◌else◌, List, [], ◌∷◌, ◌++◌, codes, map, refl, sym, ap, ◌∙◌, arith, append_assoc, append-nil}
+use Rattle.std.proofs.Common.{◌≡◌, ℕ, ◌+◌, Bool, false, if◌then◌else◌, List, [], ◌∷◌, ◌++◌, codes, map, sym, ap, ◌∙◌, arith, append_assoc, append-nil}
 use Rattle.fizz_text.specs.declared.attribute.Attr.{Attr}
-use Rattle.dom_forest.specs.Printing.{Printed, printed, printed_step, printed_nodes, siblings_bytes, element_bytes, text_bytes, end_tag, tag_front, is_void}
+use Rattle.dom_forest.specs.Printing.{Printed, printed, printed_step, siblings_bytes, end_tag, tag_front, is_void}
 use Rattle.dom_forest.specs.declared.document.DocNode.{DocNode}
 use Rattle.dom_forest.specs.declared.document.DocNode.TheVariants.{Element, Text, rolls-Element, rolls-Text}
 use Rattle.dom_forest.specs.declared.document.DocNode.TheOpen.{DocNode-F, Element as element_layer, Text as text_layer}
@@ -40,7 +40,7 @@ element_tail void name kids = if void then codes "/>" else codes ">" ++ siblings
 -- The siblings in hand begin with an element that isn't void.
 siblings-element : (after_text : Bool) (name : List ℕ) (attributes : List Attr) (kids later : List DocNode) → is_void name ≡ false
     → siblings_bytes after_text (map printed (Element name attributes kids ∷ later))
-        ≡ (tag_front name attributes ++ (codes ">" ++ siblings_bytes false (map printed kids) ++ end_tag name)) ++ siblings_bytes false (map printed later)
+    ≡ (tag_front name attributes ++ (codes ">" ++ siblings_bytes false (map printed kids) ++ end_tag name)) ++ siblings_bytes false (map printed later)
 siblings-element after_text name attributes kids later plain =
     ap (λ (p : Printed). p.bytes after_text ++ siblings_bytes p.is_text (map printed later)) (printed-element name attributes kids)
     ∙ ap (λ void. (tag_front name attributes ++ element_tail void name (map printed kids)) ++ siblings_bytes false (map printed later)) plain

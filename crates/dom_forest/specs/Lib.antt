@@ -1,1 +1,10 @@
+pub mod Boundary
+pub mod Edits
+pub mod Flat
+pub mod Forest
+pub mod Ids
 pub mod Printing
+pub mod Refusals
+pub mod Runs
+pub mod Seen
+pub mod Stored

@@ -2,10 +2,20 @@
 //! have ids.
 #![tactic(auto)]
 
+mod boundary;
+mod digest;
 mod document;
+mod dom;
+mod edits;
+mod entry;
+mod ids;
 mod node;
 mod printing;
+mod queries;
+#[cfg(test)]
+mod tests;
 
 pub use document::{Doc, DocNode};
+pub use dom::{Dom, InsertRefused};
 pub use node::{DomNode, Mark, NewNode, NodeId};
 pub use printing::print_doc;

@@ -33,7 +33,16 @@ pub fn print_doc(alloc: Global, doc: &Doc) -> Result<Vec<u8>, OutOfMemory>
                 rest = later;
                 after_text = true;
             }
-            Some((DocNode::Element { name, attributes, kids }, later)) => {
+            Some(
+                (
+                    DocNode::Element {
+                        name,
+                        attributes,
+                        kids,
+                    },
+                    later,
+                ),
+            ) => {
                 push_tag_front(&mut out, name, attributes.as_slice())?;
                 if is_void_name(name) {
                     out.extend_from_slice(b"/>")?;

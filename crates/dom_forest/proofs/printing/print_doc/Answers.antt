@@ -1,9 +1,8 @@
-use Rattle.std.proofs.Common.{◌≡◌, ◌∷◌, ◌++◌, [], arith, ap, sym, ◌∙◌, Bool, false, codes, map}
+use Rattle.std.proofs.Common.{◌≡◌, ◌∷◌, ◌++◌, arith, false, codes, map}
 use Rattle.std.proofs.lemmas.Grind.{common_steps}
 use Rattle.dom_forest.specs.Printing.{is_void, tag_front, end_tag, siblings_bytes, printed}
 use Rattle.dom_forest.specs.declared.document.DocNode.TheVariants.{Element}
-use Rattle.dom_forest.specs.declared.printing.Open.{Open}
-use Rattle.dom_forest.proofs.OpenElements.{closing, closing-push, goes_in, weight-element, weight_of_all, weight_of_open, weight_of_open-push}
+use Rattle.dom_forest.proofs.OpenElements.{closing, closing-push, goes_in, weight-element, weight_of_open-push}
 use Rattle.dom_forest.proofs.printing.print_doc.Goals as goal
 
 pub nodes-smaller-in_ok-push-in-Some-Element-default-2 : goal.nodes-smaller-in_ok-push-in-Some-Element-default-2

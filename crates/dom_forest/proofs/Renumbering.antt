@@ -1,0 +1,96 @@
+-- Entries that get other ids or depths.
+use Rattle.std.proofs.Common.{◌≡◌, ℕ, suc, ◌+◌, ◌<◌, ◌≤◌, List, [], ◌∷◌, ◌++◌, length, take, drop, set, get_or, map, refl, sym, ap, ◌∙◌, arith, add-zero, inl, inr, ◌^◌}
+use Rattle.std.specs.List.{AllByRecursion}
+use Rattle.std.proofs.lemmas.List.{set_at, get_or_at, append_assoc, drop_more, take_more, length-take-le}
+use Rattle.dom_forest.specs.declared.entry.Entry.{Entry}
+use Rattle.dom_forest.specs.Forest.{Forest, empty, tree, count}
+use Rattle.dom_forest.specs.Edits.{renumbered}
+use Rattle.dom_forest.specs.Flat.{flat, shifted, renumbered_entries, CanShift}
+use Rattle.std.proofs.lemmas.Bool.{cases_eq}
+use Rattle.dom_forest.proofs.Flattening.{entry_times, counts_one, counts_none}
+
+abbrev pub with_id : ℕ → Entry → Entry
+with_id id e = record { depth = e.depth; id = id; node = e.node }
+
+pub renumbered_entries-push : (next : ℕ) (es : List Entry) (e : Entry) → renumbered_entries next (es ++ e ∷ []) ≡ renumbered_entries next es ++ with_id (next + length es) e ∷ []
+renumbered_entries-push next [] e = ap (λ n. with_id n e ∷ []) (sym (add-zero next))
+renumbered_entries-push next (f ∷ es) e =
+    ap (λ rest. with_id next f ∷ rest) (renumbered_entries-push (next + 1) es e ∙ ap (λ n. renumbered_entries (next + 1) es ++ with_id n e ∷ []) (omega arith))
+
+pub length-renumbered_entries : (next : ℕ) (es : List Entry) → length (renumbered_entries next es) ≡ length es
+length-renumbered_entries next [] = refl
+length-renumbered_entries next (e ∷ es) = ap suc (length-renumbered_entries (next + 1) es)
+
+-- A turn of the loop that gives ids.
+pub renumber_more : (first : ℕ) (old now : List Entry) (k : ℕ) (item : Entry) → k < length old → now ≡ renumbered_entries first (take k old) ++ drop k old
+    → set now k (with_id (first + k) (get_or now k item)) ≡ renumbered_entries first (take (k + 1) old) ++ drop (k + 1) old
+renumber_more first old now k item h is =
+    let old_item = get_or old k item in
+    let front = renumbered_entries first (take k old) in
+    let size : length front ≡ k = length-renumbered_entries first (take k old) ∙ length-take-le k old (omega arith) in
+    let cut : now ≡ front ++ old_item ∷ drop (k + 1) old = is ∙ ap (λ es. front ++ es) (drop_more old k item h) in
+    let read : get_or now k item ≡ old_item = ap (λ es. get_or es k item) cut ∙ get_or_at front old_item (drop (k + 1) old) item k size in
+    ap (λ (e : Entry). set now k (with_id (first + k) e)) read
+    ∙ ap (λ es. set es k (with_id (first + k) old_item)) cut
+    ∙ set_at front old_item (drop (k + 1) old) (with_id (first + k) old_item) k size
+    ∙ sym (ap (λ es. renumbered_entries first es ++ drop (k + 1) old) (take_more old k item h)
+    ∙ ap (λ es. es ++ drop (k + 1) old) (renumbered_entries-push first (take k old) old_item)
+    ∙ ap (λ n. (front ++ with_id (first + n) old_item ∷ []) ++ drop (k + 1) old) (length-take-le k old (omega arith))
+    ∙ append_assoc front (with_id (first + k) old_item ∷ []) (drop (k + 1) old))
+
+-- A forest's flat list keeps its shape.
+pub renumbered-flat : (next depth : ℕ) (forest : Forest) (more : List Entry)
+    → renumbered_entries next (flat depth forest more) ≡ flat depth (renumbered next forest) (renumbered_entries (next + count forest) more)
+renumbered-flat next depth empty more = ap (λ n. renumbered_entries n more) (sym (add-zero next))
+renumbered-flat next depth (tree i content kids later) more =
+    ap (λ es. record { depth = depth; id = next; node = content } ∷ es)
+    (renumbered-flat (next + 1) (depth + 1) kids (flat depth later more)
+    ∙ ap (flat (depth + 1) (renumbered (next + 1) kids))
+    (renumbered-flat (next + 1 + count kids) depth later more
+    ∙ ap (λ n. flat depth (renumbered (next + 1 + count kids) later) (renumbered_entries n more)) (omega arith)))
+
+pub shifted-flat : (up down depth : ℕ) (forest : Forest) (more : List Entry)
+    → map (shifted up down) (flat (up + depth) forest more) ≡ flat (depth + down) forest (map (shifted up down) more)
+shifted-flat up down depth empty more = refl
+shifted-flat up down depth (tree i content kids later) more =
+    ap (λ n. record { depth = n; id = i; node = content } ∷ map (shifted up down) (flat (up + depth + 1) kids (flat (up + depth) later more))) (omega arith)
+    ∙ ap (λ es. record { depth = depth + down; id = i; node = content } ∷ es)
+    (ap (λ n. map (shifted up down) (flat n kids (flat (up + depth) later more))) (omega arith)
+    ∙ shifted-flat up down (depth + 1) kids (flat (up + depth) later more)
+    ∙ ap (λ n. flat n kids (map (shifted up down) (flat (up + depth) later more))) (omega arith)
+    ∙ ap (flat (depth + down + 1) kids) (shifted-flat up down depth later more))
+
+-- Ids that ascend stand once each, from the first on.
+pub renumbered_times-below : (next : ℕ) (es : List Entry) (id : ℕ) → id < next → entry_times id (renumbered_entries next es) ≡ 0
+renumbered_times-below next [] id h = refl
+renumbered_times-below next (e ∷ es) id h = omega (arith, counts_none next id (λ same. omega arith), renumbered_times-below (next + 1) es id (omega arith))
+
+pub renumbered_times-past : (next : ℕ) (es : List Entry) (id : ℕ) → next + length es ≤ id → entry_times id (renumbered_entries next es) ≡ 0
+renumbered_times-past next [] id h = refl
+renumbered_times-past next (e ∷ es) id h = omega (arith, counts_none next id (λ same. omega arith), renumbered_times-past (next + 1) es id (omega arith))
+
+pub renumbered_times-once : (next : ℕ) (es : List Entry) (id : ℕ) → entry_times id (renumbered_entries next es) ≤ 1
+renumbered_times-once next [] id = omega arith
+renumbered_times-once next (e ∷ es) id = elim (cases_eq next id) [
+  | inl same ↦ omega (arith, counts_one next id same, renumbered_times-below (next + 1) es id (omega arith))
+  | inr other ↦ omega (arith, counts_none next id other, renumbered_times-once (next + 1) es id)
+]
+
+-- The times of an id stay where entries are moved.
+pub shifted_times : (up down : ℕ) (es : List Entry) (id : ℕ) → entry_times id (map (shifted up down) es) ≡ entry_times id es
+shifted_times up down [] id = refl
+shifted_times up down (e ∷ es) id = omega (arith, shifted_times up down es id)
+
+-- How deep the nodes of a forest stand.
+abbrev pub WithinDepths : ℕ → ℕ → Entry → Type 0
+WithinDepths least most e = (least ≤ e.depth) × (e.depth < most)
+
+pub depths-flat : (least most depth : ℕ) (forest : Forest) (more : List Entry) → least ≤ depth → depth + count forest ≤ most
+    → AllByRecursion (WithinDepths least most) more → AllByRecursion (WithinDepths least most) (flat depth forest more)
+depths-flat least most depth empty more low high h = h
+depths-flat least most depth (tree i content kids later) more low high h =
+    ((low, omega arith), depths-flat least most (depth + 1) kids (flat depth later more) (omega arith) (omega arith) (depths-flat least most depth later more low (omega arith) h))
+
+pub can_shift : (least most up down : ℕ) (es : List Entry) → up ≤ least → most + down ≤ 2 ^ 64 → AllByRecursion (WithinDepths least most) es → AllByRecursion (CanShift up down) es
+can_shift least most up down [] low high h = tt
+can_shift least most up down (e ∷ es) low high h = ((omega (arith, h.0.0), omega (arith, h.0.1)), can_shift least most up down es low high h.1)

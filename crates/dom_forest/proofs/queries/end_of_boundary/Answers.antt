@@ -1,0 +1,18 @@
+use Rattle.std.proofs.Common.{length, sym, ap, ◌∙◌}
+use Rattle.dom_forest.specs.Forest.{first_later}
+use Rattle.dom_forest.specs.Boundary.{closing_mark}
+use Rattle.dom_forest.specs.Flat.{forest_of}
+use Rattle.dom_forest.proofs.Focus.{absent}
+use Rattle.dom_forest.proofs.Located.{known, closing_id}
+use Rattle.dom_forest.proofs.queries.end_of_boundary.Goals as goal
+
+pub returns-in-Some : goal.returns-in-Some
+returns-in-Some c =
+    let cut = c.in-Some.cut in
+    let x = known c.args.entries.now cut.before.now cut.after.now cut.entry.now c.args.id (length c.args.places.now) c.requires c.in-Some.ensures.whole c.in-Some.ensures.node in
+    c.closing_after.ensures ∙ closing_id cut.before.now cut.entry.now cut.after.now c.args.id (forest_of c.args.entries.now) x
+
+pub returns-in-None : goal.returns-in-None
+returns-in-None c =
+    let x = absent c.args.id (forest_of c.args.entries.now) c.in-None.ensures.absent in
+    sym (ap (λ f. closing_mark (first_later f) 0) x.from_is)
