@@ -13,3 +13,6 @@ pub mod Digits
 pub mod Decoding
 pub mod Cleaning
 pub mod StringDecoding
+pub mod Cutting
+pub mod Texts
+pub mod DecodedTexts

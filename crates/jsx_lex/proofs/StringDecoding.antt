@@ -93,3 +93,41 @@ decodes-end whole word quote at out d e = by_left d.left d.valid d.rest d.text
         let split : drop at word ≡ spelling_of q ++ more = rest ∙ append_assoc (spelling_of q) (flat_map spelling_of qs) (quote ∷ []) in
         let f : part_at quote (drop at word) ≡ Some (part_of q) = ap (λ (zs : List ℕ). part_at quote zs) split ∙ part_at-complete quote q more (some-is whole word quote at out d) (All-head (IsPart quote) q qs valid) in
         absurd cc
+
+-- one word, one list of parts
+pub same_parts : (quote : ℕ) (ps qs : List StringPart) → quote ≢ 92 → All (IsPart quote) ps → All (IsPart quote) qs → flat_map spelling_of ps ++ quote ∷ [] ≡ flat_map spelling_of qs ++ quote ∷ [] → flat_map meaning_of ps ≡ flat_map meaning_of qs
+same_parts quote [] [] n h k e = refl
+same_parts quote [] (q ∷ qs) n h k e =
+    let more : List ℕ = flat_map spelling_of qs ++ quote ∷ [] in
+    let split : quote ∷ [] ≡ spelling_of q ++ more = e ∙ append_assoc (spelling_of q) (flat_map spelling_of qs) (quote ∷ []) in
+    let f : part_at quote (quote ∷ []) ≡ Some (part_of q) = ap (λ (zs : List ℕ). part_at quote zs) split ∙ part_at-complete quote q more n (All-head (IsPart quote) q qs k) in
+    let g : part_at quote (quote ∷ []) ≡ None = no_quote quote in
+    absurd cc
+same_parts quote (p ∷ ps) [] n h k e =
+    let more : List ℕ = flat_map spelling_of ps ++ quote ∷ [] in
+    let split : quote ∷ [] ≡ spelling_of p ++ more = sym e ∙ append_assoc (spelling_of p) (flat_map spelling_of ps) (quote ∷ []) in
+    let f : part_at quote (quote ∷ []) ≡ Some (part_of p) = ap (λ (zs : List ℕ). part_at quote zs) split ∙ part_at-complete quote p more n (All-head (IsPart quote) p ps h) in
+    let g : part_at quote (quote ∷ []) ≡ None = no_quote quote in
+    absurd cc
+same_parts quote (p ∷ ps) (q ∷ qs) n h k e =
+    let a : List ℕ = flat_map spelling_of ps ++ quote ∷ [] in
+    let b : List ℕ = flat_map spelling_of qs ++ quote ∷ [] in
+    let split : spelling_of p ++ a ≡ spelling_of q ++ b = sym (append_assoc (spelling_of p) (flat_map spelling_of ps) (quote ∷ [])) ∙ (e ∙ append_assoc (spelling_of q) (flat_map spelling_of qs) (quote ∷ [])) in
+    let f : part_at quote (spelling_of p ++ a) ≡ Some (part_of p) = part_at-complete quote p a n (All-head (IsPart quote) p ps h) in
+    let g : part_at quote (spelling_of q ++ b) ≡ Some (part_of q) = part_at-complete quote q b n (All-head (IsPart quote) q qs k) in
+    let s : Some (part_of p) ≡ Some (part_of q) = sym f ∙ (ap (λ (zs : List ℕ). part_at quote zs) split ∙ g) in
+    let i : part_of p ≡ part_of q = cc in
+    let m : meaning_of p ≡ meaning_of q = sym (bytes_of-part p) ∙ (ap (λ (x : Part). bytes_of x.meaning) i ∙ bytes_of-part q) in
+    let l : length (spelling_of p) ≡ length (spelling_of q) = sym (length-part_of p) ∙ (ap (λ (x : Part). x.length) i ∙ length-part_of q) in
+    let r : a ≡ b = sym (drop_at (spelling_of p) a (length (spelling_of q)) l) ∙ (ap (λ (zs : List ℕ). drop (length (spelling_of q)) zs) split ∙ drop_at (spelling_of q) b (length (spelling_of q)) refl) in
+    let t = same_parts quote ps qs n (All-tail (IsPart quote) p ps h) (All-tail (IsPart quote) q qs k) r in
+    ap (λ (zs : List ℕ). zs ++ flat_map meaning_of ps) m ∙ ap (λ (zs : List ℕ). meaning_of q ++ zs) t
+
+pub one_text : (word text other : List ℕ) → IsStringText word text → IsStringText word other → text ≡ other
+one_text word text other h k =
+    let s = h.0 in
+    let t = k.0 in
+    let e : s.quote ∷ (flat_map spelling_of s.parts ++ s.quote ∷ []) ≡ t.quote ∷ (flat_map spelling_of t.parts ++ t.quote ∷ []) = sym s.spelled ∙ t.spelled in
+    let q : s.quote ≡ t.quote = ap (λ (zs : List ℕ). get_or zs 0 0) e in
+    let e' : flat_map spelling_of s.parts ++ s.quote ∷ [] ≡ flat_map spelling_of t.parts ++ s.quote ∷ [] = ap (λ (zs : List ℕ). drop 1 zs) e ∙ ap (λ (x : ℕ). flat_map spelling_of t.parts ++ x ∷ []) (sym q) in
+    h.1 ∙ (same_parts s.quote s.parts t.parts (quote_apart s.quote s.quoted) s.valid (subst (λ (x : ℕ). All (IsPart x) t.parts) (sym q) t.valid) e' ∙ sym k.1)

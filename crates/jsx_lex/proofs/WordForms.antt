@@ -1,5 +1,5 @@
 -- The tokens of a text have the forms of their kinds.
-use Rattle.std.proofs.Common.{◌≡◌, ℕ, ◌+◌, ◌-◌, ◌<◌, inl, inr, true, false, List, [], ◌∷◌, ◌++◌, length, drop, take, slice_range, Option, Some, None, refl, ap, sym, ◌∙◌, arith, subst, append_assoc, All}
+use Rattle.std.proofs.Common.{◌≡◌, ℕ, ◌+◌, ◌-◌, ◌<◌, inl, inr, true, false, List, [], ◌∷◌, ◌++◌, length, drop, take, get_or, slice_range, Option, Some, None, refl, ap, sym, ◌∙◌, arith, subst, append_assoc, All}
 use Rattle.std.proofs.lemmas.Bool.{and_parts, and_from, or_left}
 use Rattle.std.proofs.lemmas.List.{length-append, take_at, drop_at, append-nil}
 use Rattle.std.proofs.lemmas.List.Elements.{All-nil, All-cons, All-append}
@@ -74,3 +74,9 @@ all_words text tokens h =
     let w : All (HasWord (spelled h.lexemes ++ [])) (tokens_from 0 h.lexemes) = words_from [] 0 first_modes h.lexemes [] first_modes refl h.leads in
     let e : spelled h.lexemes ++ [] ≡ text = append-nil (spelled h.lexemes) ∙ sym h.split in
     subst (λ (ts : List Token). All (HasWord text) ts) (sym h.tokens_are) (subst (λ (zs : List ℕ). All (HasWord zs) (tokens_from 0 h.lexemes)) e w)
+
+-- the word of one token
+pub word_there : (text : List ℕ) (items all : List Token) (i : ℕ) (d : Token) (word : List ℕ) → AreTokens text items → all ≡ items → i < length all → word ≡ slice_range text (get_or all i d).from (get_or all i d).to → IsWord (get_or all i d).kind word
+word_there text items all i d word h e l w =
+    let here : All (HasWord text) all = subst (λ (ts : List Token). All (HasWord text) ts) (sym e) (all_words text items h) in
+    subst (λ (zs : List ℕ). IsWord (get_or all i d).kind zs) (sym w) (here i d l)

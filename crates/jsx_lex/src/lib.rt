@@ -23,7 +23,7 @@ mod tests;
 mod token;
 
 pub use fault::{LexFault, LexKind};
-pub use laws::{one_fault, one_token_list, token_words, tokens_or_fault};
+pub use laws::{one_fault, one_string_text, one_token_list, token_words, tokens_or_fault};
 pub use lexer::lex;
 pub use meaning::{decode_string, decode_tag_string, decode_text, number_value};
 pub use mode::{Change, Mode};

@@ -1,6 +1,6 @@
 //! What tokens mean. Each function takes the bytes of a token.
 
-ghost use Rattle.std.specs.Prelude.{◌≡◌, ◌<◌, ◌≤◌, ◌^◌, IfOk, pos, neg_ℤ};
+ghost use Rattle.std.specs.Prelude.{◌≡◌, ◌<◌, ◌≤◌, ◌^◌, IfOk, IsUtf8, pos, neg_ℤ};
 ghost use Rattle.jsx_lex.specs.Words.{IsNumber, IsStr, IsTagStr};
 ghost use Rattle.jsx_lex.specs.Meanings.{number_of, IsStringText, tag_text_of, jsx_text_of};
 
@@ -33,7 +33,8 @@ fn negated(value: u64) -> i64
 /// The text of a `Str`, with its escapes replaced.
 pub fn decode_string(alloc: Global, word: &[u8]) -> Result<Vec<u8>, AllocError>
     requires { IsStr word.now }
-    ensures { IfOk result (λ v. IsStringText word.now v.items) }
+    ensures text { IfOk result (λ v. IsStringText word.now v.items) }
+    ensures utf8 { IsUtf8 word.now → IfOk result (λ v. IsUtf8 v.items) }
 {
     let mut out = Vec::new(alloc);
     let quote = word[0];
@@ -48,7 +49,8 @@ pub fn decode_string(alloc: Global, word: &[u8]) -> Result<Vec<u8>, AllocError>
 /// The text of a `TagStr`, with its character references replaced.
 pub fn decode_tag_string(alloc: Global, word: &[u8]) -> Result<Vec<u8>, AllocError>
     requires { IsTagStr word.now }
-    ensures { IfOk result (λ v. v.items ≡ tag_text_of word.now) }
+    ensures text { IfOk result (λ v. v.items ≡ tag_text_of word.now) }
+    ensures utf8 { IsUtf8 word.now → IfOk result (λ v. IsUtf8 v.items) }
 {
     let mut out = Vec::new(alloc);
     push_decoded(&mut out, &word[1..word.len() - 1])?;
@@ -56,9 +58,10 @@ pub fn decode_tag_string(alloc: Global, word: &[u8]) -> Result<Vec<u8>, AllocErr
 }
 
 /// The text of a `JsxText`: first the line breaks and blanks that lay out the source go, then character references
-/// are replaced. It is empty exactly where nothing but such layout stands there.
+/// are replaced.
 pub fn decode_text(alloc: Global, word: &[u8]) -> Result<Vec<u8>, AllocError>
-    ensures { IfOk result (λ v. v.items ≡ jsx_text_of word.now) }
+    ensures text { IfOk result (λ v. v.items ≡ jsx_text_of word.now) }
+    ensures utf8 { IsUtf8 word.now → IfOk result (λ v. IsUtf8 v.items) }
 {
     let text = clean(alloc, word)?;
     let mut out = Vec::new(alloc);

@@ -1,10 +1,14 @@
 //! Small texts with their tokens, refused texts, whole files, and what tokens mean.
 
-ghost use Rattle.std.specs.Prelude.{◌≡◌};
+ghost use Rattle.std.specs.Prelude.{◌≡◌, IfSome, slice_range};
+ghost use Rattle.jsx_lex.specs.TokenWords.{IsWord};
 
 use crate::TokenKind::{JsxText, Name, Number, Sign, Str, TagStr};
-use crate::{LexFault, LexKind, Token, TokenKind, lex};
-use std::alloc::Global;
+use crate::{
+    LexFault, LexKind, Token, TokenKind, decode_string, decode_tag_string, decode_text, lex,
+    number_value,
+};
+use std::alloc::{AllocError, Global};
 use std::process::Abort;
 use std::test::Fail;
 
@@ -797,4 +801,135 @@ fn whole_files(rt: HostRuntime) {
         Err(LexFault::Bad { at, kind }) => assert!(rt; at == 29 && kind == LexKind::Bare),
         _ => assert!(rt; false, "a brace in the text"),
     }
+}
+
+/// A text with the texts of its strings and of what stands between its tags, in order.
+static TEXTS: [(&str, &[&str]); 20] = [
+    ("''", &[""]),
+    ("'\\\\ \\\" \\' \\n \\r \\t'", &["\\ \" ' \n \r \t"]),
+    (
+        "'\\u0041\\u00e9\\u20AC\\uFFFD'",
+        &["A\u{e9}\u{20ac}\u{fffd}"],
+    ),
+    ("'&amp;\u{e9}'", &["&amp;\u{e9}"]),
+    (
+        "<p a='\\n&amp;&lt;&gt;&quot;&apos;&nbsp;'/>",
+        &["\\n&<>\"'\u{a0}"],
+    ),
+    ("<p a=\" x\n y \"/>", &[" x\n y "]),
+    (
+        "<p>&#65;&#x41;&#0065;&#x00e9;&#x1F600;</p>",
+        &["AAA\u{e9}\u{1f600}"],
+    ),
+    (
+        "<p>&amp &#; &#x; &#xD800; &#x110000; &#99999999999; &bogus; &#x4g; &AMP; &#X41;</p>",
+        &["&amp &#; &#x; &#xD800; &#x110000; &#99999999999; &bogus; &#x4g; &AMP; &#X41;"],
+    ),
+    ("<p>&amp;lt;&amp;amp;</p>", &["&lt;&amp;"]),
+    ("<p> a  b </p>", &[" a  b "]),
+    ("<p>\t</p>", &["\t"]),
+    ("<p>\n</p>", &[""]),
+    ("<p> \n \t\r\n </p>", &[""]),
+    ("<p>a\nb</p>", &["a b"]),
+    ("<p> a \n b \n c </p>", &[" a b c "]),
+    ("<p>a\r\n\r\n\tb  c\r\n</p>", &["a b  c"]),
+    ("<p>\n  a\n  {x}\n  b <i>c</i>\n</p>", &["a", "b ", "c", ""]),
+    ("<p>a\n&#32;\nb&#10;</p>", &["a   b\n"]),
+    ("<p>Blog &amp; News</p>", &["Blog & News"]),
+    ("<p>\u{e9}\n\u{e9}\u{a0}\n</p>", &["\u{e9} \u{e9}\u{a0}"]),
+];
+
+static NUMBERS: [(&str, i64); 6] = [
+    ("0", 0),
+    ("7", 7),
+    ("-1", -1),
+    ("1234567890", 1234567890),
+    ("9223372036854775807", i64::MAX),
+    ("-9223372036854775808", i64::MIN),
+];
+
+/// The text of a word, where it has one.
+fn text_of(alloc: Global, kind: TokenKind, word: &[u8]) -> Result<Option<Vec<u8>>, AllocError>
+    requires { IsWord kind word.now }
+{
+    match kind {
+        TokenKind::Str => Ok(Some(decode_string(alloc, word)?)),
+        TokenKind::TagStr => Ok(Some(decode_tag_string(alloc, word)?)),
+        TokenKind::JsxText => Ok(Some(decode_text(alloc, word)?)),
+        TokenKind::Name | TokenKind::Number | TokenKind::Sign => Ok(None),
+    }
+}
+
+/// The value of a word, where it has one.
+fn value_of(kind: TokenKind, word: &[u8]) -> Option<i64>
+    requires { IsWord kind word.now }
+{
+    match kind {
+        TokenKind::Number => Some(number_value(word)),
+        _ => None,
+    }
+}
+
+/// The bytes of a token.
+fn word_at<'a>(text: &'a [u8], token: &Token) -> Option<&'a [u8]>
+    ensures { IfSome result (λ w. w.now ≡ slice_range text.now token.now.from token.now.to) }
+{
+    text.get(token.from..token.to)
+}
+
+fn check_texts(
+    rt: &impl Abort,
+    alloc: Global,
+    source: &[u8],
+    expected: &[&str],
+) -> Result<(), Fail> {
+    let tokens = lex(alloc, source)?;
+    let mut count = 0;
+    for token in &tokens {
+        let Some(word) = word_at(source, token) else {
+            break;
+        };
+        if let Some(text) = text_of(alloc, token.kind, word)? {
+            let wanted = expected.get(count).ok_or("one text more")?;
+            assert!(rt;
+                text.as_slice() == wanted.as_bytes(),
+                "text {count} is not {wanted}"
+            );
+            count += 1;
+        }
+    }
+    assert!(rt; count == expected.len(), "{count} texts");
+    Ok(())
+}
+
+fn check_number(rt: &impl Abort, alloc: Global, source: &[u8], expected: i64) -> Result<(), Fail> {
+    let tokens = lex(alloc, source)?;
+    let mut is_seen = false;
+    for token in &tokens {
+        let Some(word) = word_at(source, token) else {
+            break;
+        };
+        if let Some(value) = value_of(token.kind, word) {
+            assert!(rt; value == expected, "{value} is not {expected}");
+            is_seen = true;
+        }
+    }
+    assert!(rt; is_seen, "no number for {expected}");
+    Ok(())
+}
+
+#[test]
+fn texts_of_tokens(rt: HostRuntime) -> Result<(), Fail> {
+    for (source, expected) in TEXTS {
+        check_texts(&rt, rt.alloc(), source.as_bytes(), expected)?;
+    }
+    Ok(())
+}
+
+#[test]
+fn values_of_numbers(rt: HostRuntime) -> Result<(), Fail> {
+    for (source, expected) in NUMBERS {
+        check_number(&rt, rt.alloc(), source.as_bytes(), expected)?;
+    }
+    Ok(())
 }

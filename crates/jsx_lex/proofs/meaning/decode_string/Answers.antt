@@ -1,4 +1,5 @@
 use Rattle.std.proofs.Common.{refl, get_or}
+use Rattle.jsx_lex.proofs.Texts.{string_utf8}
 use Rattle.jsx_lex.proofs.StringDecoding.{decodes-first, decodes-more, decodes-end}
 use Rattle.jsx_lex.proofs.meaning.decode_string.Goals as goal
 
@@ -8,5 +9,8 @@ parts-init c = decodes-first c.args.word.now (get_or c.args.word.now 0 0) c.new-
 pub parts-preserved : goal.parts-preserved
 parts-preserved c = decodes-more c.args.word.now c.args.word.now (get_or c.args.word.now 0 0) c.parts.at c.parts.out.items c.push_meaning.new.out.items c.in-Some.part c.parts.invariant c.in-Some.ensures.part c.in-Some.ensures.within.1 c.in_ok-push_meaning.ensures
 
-pub returns : goal.returns
-returns c = decodes-end c.args.word.now c.args.word.now (get_or c.args.word.now 0 0) c.parts.at c.parts.out.items c.parts.invariant c.in_default.ensures.part
+pub returns-clause-text : goal.returns-clause-text
+returns-clause-text c = decodes-end c.args.word.now c.args.word.now (get_or c.args.word.now 0 0) c.parts.at c.parts.out.items c.parts.invariant c.in_default.ensures.part
+
+pub returns-clause-utf8 : goal.returns-clause-utf8
+returns-clause-utf8 c = λ u. string_utf8 c.args.word.now c.parts.out.items (returns-clause-text c) u
