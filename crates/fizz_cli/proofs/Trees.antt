@@ -1,13 +1,16 @@
 -- A source is its row of lexemes, and each row that goes on up to the end of the outermost element is a source's.
-use Rattle.std.proofs.Common.{◌≡◌, ℕ, zero, suc, ◌+◌, Bool, true, false, not, nat_lt, List, [], ◌∷◌, ◌++◌, length, map, Some, is_some, unwrap_or, refl, sym, ◌∙◌, ap, arith, codes, append_assoc, append-nil}
+use Rattle.std.proofs.Common.{◌≡◌, ℕ, zero, suc, ◌+◌, Bool, true, false, not, nat_lt, List, [], ◌∷◌, ◌++◌, length, map, Option, Some, None, is_some, unwrap_or, refl, sym, ◌∙◌, ap, arith, codes, append_assoc, append-nil}
 use Rattle.std.specs.Cmp.Derive.{both_true}
 use Rattle.std.proofs.lemmas.Slice.Eq.{bytes_eq-Decides}
 use Rattle.std.proofs.lemmas.Bool.Decides.{nat_tests}
+use Rattle.html_names.specs.Attributes.{Meaning, attribute_of}
 use Rattle.html_names.specs.Elements.{void_flag, IsElementName}
+use Rattle.html_names.specs.Names.{is_plain_name}
+use Rattle.html_names.proofs.PlainNames.{attribute_is_plain}
 use Rattle.html_names.specs.Escape.{escaped}
 use Rattle.fizz_cli.specs.Page as page
-use Rattle.fizz_cli.specs.Page.{html, element_html, attributes_html, is_void, IsRead}
-use Rattle.fizz_cli.specs.Source.{Source, end, text, closed, element, Written, source_bytes, attr_of, page_of, MayStand, StartsWithText, IsOneElement, IsBody, most_open}
+use Rattle.fizz_cli.specs.Page.{html, element_html, attributes_html, is_void, AreNamed, IsRead}
+use Rattle.fizz_cli.specs.Source.{Source, end, text, closed, element, Written, AreAttributes, IsPlain, source_bytes, name_of, attr_of, page_of, MayStand, StartsWithText, IsOneElement, IsBody, most_open}
 use Rattle.fizz_cli.specs.Lexemes.{Lexeme, words, whole, start, finish, lexeme_bytes, lexemes_bytes, lexeme_html, lexemes_html, IsLexeme, may_follow, Follows, flat}
 use Rattle.fizz_cli.proofs.LongestRuns.{both, opposite, element_is_name, name_passes}
 
@@ -58,15 +61,24 @@ some_known name flag is = ap is_some is
 not_void : (name : List ℕ) → void_flag name ≡ Some false → is_void name ≡ true → ⊥
 not_void name known void = opposite (is_void name) void (ap (λ o. unwrap_or o false) known)
 
+plain_name : (name : List ℕ) (o : Option Meaning) → attribute_of name ≡ o → IsPlain o → is_plain_name (name_of name o) ≡ true
+plain_name name None is plain = absurd plain
+plain_name name (Some m) is plain = attribute_is_plain name m is
+
+-- the attributes of a source have the names of attributes in HTML
+are_named : (earlier ws : List Written) → AreAttributes earlier ws → AreNamed (map attr_of ws)
+are_named earlier [] are = tt
+are_named earlier (w ∷ ws) are = (plain_name w.name (attribute_of w.name) refl are.0.plain, are_named (earlier ++ w ∷ []) ws are.2)
+
 -- the page of a source is what a reader of HTML makes
 pub page_is_read : (room : ℕ) (s : Source) → MayStand room s → IsRead (page_of s)
 page_is_read room end m = tt
 page_is_read room (text t later) m = (m.0, λ h. m.2 (starts_text later h), page_is_read room later m.3)
 page_is_read zero (closed name ws later) m = absurd m
-page_is_read (suc room) (closed name ws later) m = (m.0, λ void. tt, tt, page_is_read (suc room) later m.2)
+page_is_read (suc room) (closed name ws later) m = (m.0, are_named [] ws m.1, λ void. tt, tt, page_is_read (suc room) later m.2)
 page_is_read zero (element name ws kids later) m = absurd m
 page_is_read (suc room) (element name ws kids later) m =
-    (some_known name false m.0, λ void. absurd (not_void name m.0 void), page_is_read room kids m.2, page_is_read (suc room) later m.3)
+    (some_known name false m.0, are_named [] ws m.1, λ void. absurd (not_void name m.0 void), page_is_read room kids m.2, page_is_read (suc room) later m.3)
 
 positive : (k : ℕ) → nat_lt 0 (suc k) ≡ true
 positive k = grind (arith, nat_tests)

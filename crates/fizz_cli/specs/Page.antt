@@ -1,9 +1,10 @@
 -- The page that a document of elements and texts is, and the bytes that are it in HTML.
-use Rattle.std.specs.Prelude.{◌≡◌, ◌≢◌, ℕ, Bool, true, false, if◌then◌else◌, List, [], ◌++◌, codes, unwrap_or, Option, Some, None}
+use Rattle.std.specs.Prelude.{◌≡◌, ◌≢◌, ℕ, Bool, true, false, if◌then◌else◌, List, [], ◌∷◌, ◌++◌, codes, unwrap_or, Option, Some, None}
 use Rattle.std.specs.List.{flat_map}
 use Rattle.fizz_text.specs.declared.attribute.Attr.{Attr}
 use Rattle.html_names.specs.Elements.{void_flag, IsElementName}
 use Rattle.html_names.specs.Escape.{escaped}
+use Rattle.html_names.specs.Names.{is_plain_name}
 
 -- Siblings in their order: none, or a first one with those after it. It is a text, or an element by its name and
 -- attributes over its children.
@@ -49,13 +50,18 @@ StartsWithText end = ⊥
 StartsWithText (text t later) = Unit {0}
 StartsWithText (element name attributes kids later) = ⊥
 
--- What a reader of HTML makes: a text is a longest run, so none is empty and none follows another, and a void element
--- has no children.
+-- The name of each attribute is a letter followed by letters, digits and `-`.
+abbrev pub AreNamed : List Attr → Type 0
+AreNamed [] = Unit {0}
+AreNamed (a ∷ rest) = (is_plain_name a.name ≡ true) × AreNamed rest
+
+-- What a reader of HTML makes: a text is a longest run, so none is empty and none follows another; names are names of
+-- elements and attributes; and a void element has no children.
 abbrev pub IsRead : Page → Type 0
 IsRead end = Unit {0}
 IsRead (text t later) = (t ≢ []) × (StartsWithText later → ⊥) × IsRead later
 IsRead (element name attributes kids later) =
-    IsElementName name × (is_void name ≡ true → IsEnd kids) × IsRead kids × IsRead later
+    IsElementName name × AreNamed attributes × (is_void name ≡ true → IsEnd kids) × IsRead kids × IsRead later
 
 -- The bytes are a whole document, and it is this one.
 pub record IsDocument (bytes : List ℕ) (page : Page) : Type 0 where
