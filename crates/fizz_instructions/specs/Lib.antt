@@ -1,0 +1,4 @@
+pub mod Bodies
+pub mod Functions
+pub mod Reading
+pub mod Sending
