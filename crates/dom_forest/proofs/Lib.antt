@@ -8,3 +8,4 @@ pub mod Parts
 pub mod Renumbering
 pub mod Roots
 pub mod There
+pub mod Walks

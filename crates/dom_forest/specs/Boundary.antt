@@ -5,7 +5,7 @@ use Rattle.dom_forest.specs.declared.boundary.Turn.TheVariants.{Opens, Closes, S
 use Rattle.dom_forest.specs.declared.node.Mark.TheVariants.{Complete, Pending, Client, End, Space}
 use Rattle.dom_forest.specs.declared.node.NewNode.{NewNode}
 use Rattle.dom_forest.specs.declared.node.NewNode.TheVariants.{Element, Text, Comment}
-use Rattle.dom_forest.specs.Forest.{Forest, empty, tree, from, first_later}
+use Rattle.dom_forest.specs.Forest.{Forest, empty, tree, later_of}
 
 -- What a node does to the number of open boundaries.
 abbrev pub turn_of : NewNode → Turn
@@ -30,4 +30,4 @@ closing_mark (tree i content kids later) inner = searched_past (turn_of content)
 
 -- The matching `/$` among the later siblings of a boundary's template: `$`, `$?` and `$!` count up and `/$` down.
 abbrev pub end_of_boundary : ℕ → Forest → Option ℕ
-end_of_boundary template forest = closing_mark (first_later (from template forest)) 0
+end_of_boundary template forest = closing_mark (later_of template forest) 0

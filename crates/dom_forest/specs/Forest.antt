@@ -64,14 +64,22 @@ first_tree (tree i content kids later) = tree i content kids empty
 abbrev pub content_of : ℕ → Forest → Option NewNode
 content_of id forest = first_content (from id forest)
 
+-- The children of a node, or the nodes at the top for None.
+abbrev pub kids_of : Option NodeId → Forest → Forest
+kids_of None forest = forest
+kids_of (Some parent) forest = first_kids (from parent.0 forest)
+
+-- The later siblings of a node.
+abbrev pub later_of : ℕ → Forest → Forest
+later_of id forest = first_later (from id forest)
+
+-- The first child of a node, or the first node at the top for None.
+abbrev pub first_of : Option NodeId → Forest → Option ℕ
+first_of parent forest = first_id (kids_of parent forest)
+
 -- The next sibling.
 abbrev pub next_of : ℕ → Forest → Option ℕ
-next_of id forest = first_id (first_later (from id forest))
-
--- The first child of a node, or the first node of all for None.
-abbrev pub first_of : Option NodeId → Forest → Option ℕ
-first_of None forest = first_id forest
-first_of (Some parent) forest = first_id (first_kids (from parent.0 forest))
+next_of id forest = first_id (later_of id forest)
 
 abbrev pub or_id : Option ℕ → Option ℕ → Option ℕ
 or_id None other = other

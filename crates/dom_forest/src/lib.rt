@@ -16,6 +16,6 @@ mod queries;
 mod tests;
 
 pub use document::{Doc, DocNode};
-pub use dom::{Dom, InsertRefused};
+pub use dom::{Dom, InsertRefused, laws_of_walks};
 pub use node::{DomNode, Mark, NewNode, NodeId};
 pub use printing::print_doc;
