@@ -21,10 +21,10 @@ use std::marker::Model;
 /// A document whose nodes have ids, as a forest of nodes. A node keeps its id as long as it is there, and the id of a
 /// removed node never comes back.
 ///
-/// The nodes stand in a list in document order, each with its depth. A node is found by its id at once. Its neighbours,
-/// and the end of what stands below it, are found by going over the nodes between, so `append` goes over all nodes
-/// below the element, and `find_id` over all nodes before the one that it finds. `remove`, `insert_before` and an
-/// `append` before other nodes move all later nodes.
+/// The nodes stand in a list in document order, each with its depth. A node is found by its id at once, and that an id
+/// is not there by going over all nodes. A node's neighbours, and the end of what stands below it, are found by going
+/// over the nodes between, so `append` goes over all nodes below the element, and `find_id` over all nodes before the
+/// one that it finds. `remove`, `insert_before` and an `append` before other nodes move all later nodes.
 #[derive(Debug, Drop)]
 pub struct Dom {
     entries: Vec<Entry>,
