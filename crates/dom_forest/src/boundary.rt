@@ -37,12 +37,8 @@ pub(crate) fn closing_after(after: &[Entry], depth: usize) -> Option<usize>
         if entry.depth == depth {
             match counted(&entry.node) {
                 Turn::Opens => inner += 1,
-                Turn::Closes => {
-                    if inner == 0 {
-                        return Some(entry.id);
-                    }
-                    inner -= 1;
-                }
+                Turn::Closes if inner == 0 => return Some(entry.id),
+                Turn::Closes => inner -= 1,
                 Turn::Stays => {}
             }
         }
