@@ -2,13 +2,8 @@
 # Prints how fast component files are lexed, in MB/s, at 1 KB and 256 KB. It builds a throw-away program in a
 # temporary folder, over a copy of the crate.
 set -eu
-root=$(cd "$(dirname "$0")/.." && pwd)
-work=$(mktemp -d)
-trap 'rm -rf "$work"' EXIT
-mkdir -p "$work/crates/lex_bench/src"
-cp -r "$root/crates/jsx_lex" "$work/crates/jsx_lex"
-printf 'jsx_lex: thiserror\nlex_bench: jsx_lex\n' > "$work/crates.txt"
-cat > "$work/crates/lex_bench/src/main.rt" <<'RT'
+. "$(dirname "$0")/frame.sh"
+time_over lex_bench jsx_lex <<'RT'
 #![tactic(auto)]
 
 use jsx_lex::lex;
@@ -35,5 +30,3 @@ fn main(rt: HostRuntime) -> Result<(), Fail> {
     Ok(())
 }
 RT
-cd "$work/crates/lex_bench"
-rt run
