@@ -1,14 +1,9 @@
 #!/bin/sh
 # Prints how fast a text is escaped, in MB/s, at 1, 10 and 100 MB. It builds a throw-away program in a temporary
-# folder, over a copy of the crate.
+# folder, over copies of the crates.
 set -eu
-root=$(cd "$(dirname "$0")/.." && pwd)
-work=$(mktemp -d)
-trap 'rm -rf "$work"' EXIT
-mkdir -p "$work/crates/escape_bench/src"
-cp -r "$root/crates/html_names" "$work/crates/html_names"
-printf 'html_names: serde_json\nescape_bench: html_names\n' > "$work/crates.txt"
-cat > "$work/crates/escape_bench/src/main.rt" <<'RT'
+. "$(dirname "$0")/frame.sh"
+time_over escape_bench fizz_text html_names <<'RT'
 #![tactic(auto)]
 
 use html_names::push_escaped;
@@ -32,5 +27,3 @@ fn main(rt: HostRuntime) -> Result<(), Fail> {
     Ok(())
 }
 RT
-cd "$work/crates/escape_bench"
-rt run

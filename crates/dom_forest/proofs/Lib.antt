@@ -7,5 +7,6 @@ pub mod OpenElements
 pub mod Parts
 pub mod Renumbering
 pub mod Roots
+pub mod Spines
 pub mod There
 pub mod Walks

@@ -101,6 +101,14 @@ located entries at id next doc here =
     located_at entries at id next doc here
     (focus id 0 (forest_of entries) [] None None (omega (arith, few, times_of id entries next doc, entry_times-place id entries at here)) tt)
 
+pub place-deep : (entries : List Entry) (at id next : ℕ) (e : Entry) (after : List Entry) → IsDocument entries next → IsPlace entries at id → drop at entries ≡ e ∷ after → e.depth ≤ at
+place-deep entries at id next e after doc here cut =
+    let x = located entries at id next doc here in
+    let row : Entry = record { depth = x.depth; id = id; node = x.content } in
+    let same : row ∷ flat (x.depth + 1) x.kids (flat x.depth x.later x.back) ≡ e ∷ after = sym (ap (drop at) x.whole ∙ drop_at x.front _ at x.place) ∙ cut in
+    let row_is : row ≡ e = cc in
+    omega (arith, x.deep, ap (λ (y : Entry). y.depth) row_is)
+
 -- A node of a document, whose entries are cut at it.
 pub record Known (front : List Entry) (entry : Entry) (after : List Entry) (id : ℕ) (forest : Forest) : Type 0 where
   pub kids : Forest

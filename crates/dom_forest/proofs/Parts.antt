@@ -50,6 +50,10 @@ pub spanned : (entries : List Entry) (at end depth id next : ℕ) → IsDocument
 spanned entries at end depth id next doc span =
     spanned_known entries at end depth id span (known entries span.front span.after span.entry id next doc span.whole span.same)
 
+pub spanned_rest : (entries : List Entry) (at end depth id : ℕ) → (x : Spanned entries at end depth id)
+    → drop at entries ≡ record { depth = depth; id = id; node = x.content } ∷ flat (depth + 1) x.kids (flat depth x.later x.back)
+spanned_rest entries at end depth id x = ap (drop at) x.whole ∙ drop_at x.front (flat depth (tree id x.content x.kids x.later) x.back) at x.place
+
 module _ (entries : List Entry) (at end depth id next : ℕ) (doc : IsDocument entries next) (x : Spanned entries at end depth id) where
   abbrev outer : List Entry
   outer = flat depth x.later x.back

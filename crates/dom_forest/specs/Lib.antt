@@ -3,8 +3,10 @@ pub mod Edits
 pub mod Flat
 pub mod Forest
 pub mod Ids
+pub mod OpenElements
 pub mod Printing
 pub mod Refusals
 pub mod Runs
 pub mod Seen
+pub mod Spine
 pub mod Stored

@@ -1,31 +1,12 @@
 -- How a document of elements and texts is printed, after React's server renderer.
-use Rattle.std.specs.Prelude.{ℕ, Bool, true, false, if◌then◌else◌, List, [], ◌∷◌, ◌++◌, Option, Some, None, codes, map, unwrap_or}
-use Rattle.std.specs.List.{flat_map}
+use Rattle.std.specs.Prelude.{ℕ, Bool, true, false, if◌then◌else◌, List, [], ◌∷◌, ◌++◌, codes, map, unwrap_or}
 use Rattle.fizz_text.specs.declared.attribute.Attr.{Attr}
 use Rattle.html_names.specs.Elements.{void_flag}
 use Rattle.html_names.specs.Escape.{escaped}
+use Rattle.html_names.specs.Printing.{tag_front, end_tag}
 use Rattle.dom_forest.specs.declared.document.DocNode.{DocNode}
 use Rattle.dom_forest.specs.declared.document.DocNode.TheOpen.{DocNode-F, Element, Text}
 use Rattle.dom_forest.specs.declared.document.DocNode.TheFolds.{fold-DocNode}
-
--- `="value"`, escaped, or nothing where there is no value
-abbrev pub value_bytes : Option (List ℕ) → List ℕ
-value_bytes None = []
-value_bytes (Some value) = codes "=\"" ++ escaped value ++ codes "\""
-
--- ` name="value"`, or ` name` alone
-abbrev pub attribute_bytes : Attr → List ℕ
-attribute_bytes attribute = codes " " ++ attribute.name ++ value_bytes attribute.value
-
-abbrev pub attributes_bytes : List Attr → List ℕ
-attributes_bytes = flat_map attribute_bytes
-
--- A start tag without its end: `<name` and the attributes.
-abbrev pub tag_front : List ℕ → List Attr → List ℕ
-tag_front name attributes = codes "<" ++ name ++ attributes_bytes attributes
-
-abbrev pub end_tag : List ℕ → List ℕ
-end_tag name = codes "</" ++ name ++ codes ">"
 
 -- Whether HTML has a void element of this name, which has no content and no end tag.
 abbrev pub is_void : List ℕ → Bool

@@ -11,7 +11,7 @@ ghost use Rattle.dom_forest.specs.Ids.{element_with};
 ghost use Rattle.dom_forest.specs.Seen.{number, shown, shown_node};
 
 use crate::digest::digest_set;
-use crate::entry::Entry;
+use crate::entry::{Entry, copied};
 use crate::node::{DomNode, Mark, NewNode, NodeId};
 use crate::{edits, queries};
 use fizz_text::{OutOfMemory, Text};
@@ -23,13 +23,21 @@ use std::marker::Model;
 ///
 /// The nodes stand in a list in document order, each with its depth. A node is found by its id at once, and that an id
 /// is not there by going over all nodes. A node's neighbours, and the end of what stands below it, are found by going
-/// over the nodes between, so `append` goes over all nodes below the element, and `find_id` over all nodes before the
-/// one that it finds. `remove`, `insert_before` and an `append` before other nodes move all later nodes.
+/// over the nodes between, and `find_id` goes over all nodes before the one that it finds. `remove`, `insert_before` and
+/// an `append` before other nodes move all later nodes.
+///
+/// By `append` a document is built in document order in time in proportion to its nodes: a new last node and its parent
+/// are known then to reach to the end, and below a node that is known to, or at the top, `append` goes over no other
+/// node. Below any other node it goes over all that stand there. `remove` and `insert_before` make the nodes from their
+/// place on unknown, and after `inner`, and in a part that `remove` made, none is known.
 #[derive(Debug, Drop)]
 pub struct Dom {
     entries: Vec<Entry>,
     /// Where the node of each id stood last. Its length is the next id.
     places: Vec<usize>,
+    /// The places, in ascending order, of nodes that are known to reach to the end: nothing comes after them but what
+    /// stands below them. So a new child of one of them comes last.
+    spine: Vec<usize>,
 }
 
 impl Model for Dom {
@@ -41,11 +49,12 @@ impl Model for Dom {
 
     ghost coded = { numbered_code };
 
-    ghost use Rattle.dom_forest.specs.Flat.{forest_of, IsDocument};
+    ghost use Rattle.dom_forest.specs.Flat.{forest_of};
+    ghost use Rattle.dom_forest.specs.Spine.{IsKept};
 
     ghost view = { λ d. record { forest = forest_of d.entries.items; next = length d.places.items } };
 
-    ghost invariant = { λ d. IsDocument d.entries.items (length d.places.items) };
+    ghost invariant = { λ d. IsKept d.entries.items (length d.places.items) d.spine.items };
 }
 
 /// Why a part was not inserted. The part comes back.
@@ -64,7 +73,25 @@ impl Dom {
         Dom {
             entries: Vec::new(alloc),
             places: Vec::new(alloc),
+            spine: Vec::new(alloc),
         }
+    }
+
+    /// An equal document, with the same ids.
+    pub fn copy(&self) -> Result<Dom, OutOfMemory>
+        ensures { IfOk result (λ dom. dom ≡ self.now) }
+    {
+        let alloc = *self.entries.allocator();
+        let entries = copied(alloc, &self.entries)?;
+        let mut places = Vec::new(alloc);
+        places.extend_from_slice(&self.places)?;
+        let mut spine = Vec::new(alloc);
+        spine.extend_from_slice(&self.spine)?;
+        Ok(Dom {
+            entries,
+            places,
+            spine,
+        })
     }
 
     /// Makes the node the last child of an element that is there, or the last node at the top for `None`. A refusal
@@ -74,8 +101,15 @@ impl Dom {
         ensures id { IfOk result (λ id. id.0 ≡ self.old.next) }
         ensures ok { OnOk result (self.new ≡ appended parent node self.old) }
         ensures err { OnErr result (self.new ≡ self.old) }
+        ensures numbered { IsNumbered self.new }
     {
-        edits::append_node(&mut self.entries, &mut self.places, parent, node)
+        edits::append_node(
+            &mut self.entries,
+            &mut self.places,
+            &mut self.spine,
+            parent,
+            node,
+        )
     }
 
     /// The content of a node, or `None` exactly where it is not there.
@@ -163,9 +197,15 @@ impl Dom {
         let Dom {
             mut entries,
             mut places,
+            mut spine,
         } = self;
         edits::drop_root(&mut entries, &mut places);
-        Ok(Dom { entries, places })
+        spine.clear();
+        Ok(Dom {
+            entries,
+            places,
+            spine,
+        })
     }
 
     /// Takes a node out with all below it, which becomes a document of its own with ids from 0; `None` exactly where the
@@ -179,11 +219,22 @@ impl Dom {
         let Some(span) = queries::span_of(&self.entries, &self.places, node.0) else {
             return Ok(None);
         };
-        let mut places = Vec::new(*self.places.allocator());
+        let alloc = *self.places.allocator();
+        let mut places = Vec::new(alloc);
         places.resize(span.end - span.at, 0)?;
-        let entries = edits::take_part(&mut self.entries, &mut self.places, span, node.0)?;
+        let entries = edits::take_part(
+            &mut self.entries,
+            &mut self.places,
+            &mut self.spine,
+            span,
+            node.0,
+        )?;
         edits::note_places(&entries, &mut places, 0);
-        Ok(Some(Dom { entries, places }))
+        Ok(Some(Dom {
+            entries,
+            places,
+            spine: Vec::new(alloc),
+        }))
     }
 
     /// Puts the nodes of another document before a node, as its earlier siblings. They get new ids in document order. A
@@ -199,8 +250,15 @@ impl Dom {
         };
         match edits::make_room(&mut self.entries, &mut self.places, part.entries.len()) {
             Ok(()) => {
-                let Dom { entries, places: _ } = part;
-                edits::put_part(&mut self.entries, &mut self.places, span, place.0, entries);
+                let Dom { entries, .. } = part;
+                edits::put_part(
+                    &mut self.entries,
+                    &mut self.places,
+                    &mut self.spine,
+                    span,
+                    place.0,
+                    entries,
+                );
                 Ok(())
             }
             Err(_) => Err(InsertRefused::OutOfMemory { part }),

@@ -1,13 +1,15 @@
 //! The edits of a document, by its entries and their places.
 
-ghost use Rattle.std.specs.Prelude.{◌≡◌, ◌∷◌, [], ◌++◌, ◌+◌, insert, ◌≤◌, ◌<◌, ◌^◌, All, ◌-◌, IfOk, OnErr, OnOk, length, map, take, drop, vec_len, vec_capacity, replicate};
+ghost use Rattle.std.specs.Prelude.{◌≡◌, ℕ, List, ◌∷◌, [], ◌++◌, ◌+◌, insert, ◌≤◌, ◌<◌, ◌^◌, All, ◌-◌, IfOk, OnErr, OnOk, length, map, take, drop, vec_len, vec_capacity, replicate};
 ghost use Rattle.dom_forest.specs.Edits.{changed, renumbered, with_last};
 ghost use Rattle.dom_forest.specs.Flat.{forest_of, IsDocument, IsEndOfKids, IsThereOrTop, shifted, CanShift, IsSpan, flat, renumbered_entries};
+ghost use Rattle.dom_forest.specs.Spine.{HasRoom, IsSpineOf};
 ghost use Rattle.dom_forest.specs.Forest.{IsOneElement, count, empty, first_kids, first_tree, from, joined, tree, IsThere};
 
 use crate::entry::{Entry, place_of};
 use crate::node::{NewNode, NodeId};
-use crate::queries::{Span, span_of};
+use crate::queries::{Span, cut_at};
+use crate::spine::{count_below, note_last, shorten};
 use fizz_text::OutOfMemory;
 
 /// Gives a node that is there another content.
@@ -16,26 +18,38 @@ pub(crate) fn set_content(entries: &mut Vec<Entry>, places: &[usize], id: usize,
     requires there { IsThere id (forest_of entries.old.items) }
     ensures document { IsDocument entries.new.items (length places.now) }
     ensures forest { forest_of entries.new.items ≡ changed id (λ content kids later. tree id node kids later) (forest_of entries.old.items) }
+    ensures spine { (spine : List ℕ) → IsSpineOf entries.old.items spine → IsSpineOf entries.new.items spine }
 {
     if let Some(at) = place_of(entries, places, id) {
         entries[at].node = node;
     }
 }
 
-/// Where the next child of an element goes, or the next node at the top for `None`, and its depth.
-fn end_of_kids(entries: &[Entry], places: &[usize], parent: Option<NodeId>) -> (usize, usize)
+/// Where the next child of an element goes, or the next node at the top for `None`, and its depth. Leaves on the spine
+/// what stays so.
+fn end_of_kids(
+    entries: &[Entry],
+    places: &[usize],
+    spine: &mut Vec<usize>,
+    parent: Option<NodeId>,
+) -> Result<(usize, usize), OutOfMemory>
     requires document { IsDocument entries.now (length places.now) }
     requires there { IsThereOrTop parent (forest_of entries.now) }
-    ensures end { IsEndOfKids entries.now parent result.0 result.1 }
-    ensures within { result.0 ≤ length entries.now }
+    requires spine { IsSpineOf entries.now spine.old.items }
+    ensures end { IfOk result (λ end. IsEndOfKids entries.now parent end.0 end.1) }
+    ensures within { IfOk result (λ end. end.0 ≤ length entries.now) }
+    ensures spine { IsSpineOf entries.now spine.new.items }
+    ensures room { IfOk result (λ end. HasRoom entries.now end.0 end.1 spine.new.items) }
 {
-    match parent {
-        Some(parent) => match span_of(entries, places, parent.0) {
-            Some(span) => (span.end, span.depth + 1),
-            None => (entries.len(), 0),
-        },
-        None => (entries.len(), 0),
-    }
+    let Some(parent) = parent else {
+        spine.clear();
+        return Ok((entries.len(), 0));
+    };
+    let Some(cut) = cut_at(entries, places, parent.0) else {
+        return Ok((entries.len(), 0));
+    };
+    let count = count_below(spine, cut.before, cut.entry, cut.after)?;
+    Ok((cut.before.len() + 1 + count, cut.entry.depth + 1))
 }
 
 /// Puts a new node at a place.
@@ -60,22 +74,27 @@ fn insert_entry(
 pub(crate) fn append_node(
     entries: &mut Vec<Entry>,
     places: &mut Vec<usize>,
+    spine: &mut Vec<usize>,
     parent: Option<NodeId>,
     node: NewNode,
 ) -> Result<NodeId, OutOfMemory>
     requires document { IsDocument entries.old.items (length places.old.items) }
     requires there { IsThereOrTop parent (forest_of entries.old.items) }
+    requires spine { IsSpineOf entries.old.items spine.old.items }
     ensures id { IfOk result (λ id. id.0 ≡ length places.old.items) }
     ensures next { OnOk result (length places.new.items ≡ length places.old.items + 1) }
     ensures document { IsDocument entries.new.items (length places.new.items) }
+    ensures spine { IsSpineOf entries.new.items spine.new.items }
     ensures forest { OnOk result (forest_of entries.new.items
         ≡ with_last parent (tree (length places.old.items) node empty empty) (forest_of entries.old.items)) }
     ensures err { OnErr result ((entries.new.items ≡ entries.old.items) × (places.new.items ≡ places.old.items)) }
 {
-    let (at, depth) = end_of_kids(entries, places, parent);
+    let (at, depth) = end_of_kids(entries, places, spine, parent)?;
+    spine.reserve(1)?;
     let id = places.len();
     insert_entry(entries, places, at, Entry { depth, id, node })?;
     note_places(entries, places, at);
+    note_last(spine, entries, at);
     Ok(NodeId(id))
 }
 
@@ -164,14 +183,17 @@ fn put_in(entries: &mut Vec<Entry>, at: usize, part: Vec<Entry>)
 pub(crate) fn take_part(
     entries: &mut Vec<Entry>,
     places: &mut Vec<usize>,
+    spine: &mut Vec<usize>,
     span: Span,
     id: usize,
 ) -> Result<Vec<Entry>, OutOfMemory>
     requires document { IsDocument entries.old.items (length places.old.items) }
+    requires spine { IsSpineOf entries.old.items spine.old.items }
     requires span { IsSpan entries.old.items span.at span.end span.depth id }
     requires order { span.at ≤ span.end }
     requires within { span.end ≤ vec_len entries.old }
     ensures document { IsDocument entries.new.items (length places.new.items) }
+    ensures spine { IsSpineOf entries.new.items spine.new.items }
     ensures next { length places.new.items ≡ length places.old.items }
     ensures rest { OnOk result (forest_of entries.new.items ≡ changed id (λ content kids later. later) (forest_of entries.old.items)) }
     ensures part { IfOk result (λ part. IsDocument part.items (span.end - span.at)) }
@@ -181,6 +203,7 @@ pub(crate) fn take_part(
 {
     let mut part = cut_out(entries, span.at, span.end)?;
     relabel(&mut part, span.depth, 0, 0);
+    shorten(spine, span.at);
     note_places(entries, places, span.at);
     Ok(part)
 }
@@ -207,17 +230,20 @@ pub(crate) fn make_room(
 pub(crate) fn put_part(
     entries: &mut Vec<Entry>,
     places: &mut Vec<usize>,
+    spine: &mut Vec<usize>,
     span: Span,
     id: usize,
     part: Vec<Entry>,
 )
     requires document { IsDocument entries.old.items (length places.old.items - vec_len part) }
+    requires spine { IsSpineOf entries.old.items spine.old.items }
     requires span { IsSpan entries.old.items span.at span.end span.depth id }
     requires within { span.at ≤ vec_len entries.old }
     requires room { vec_len entries.old + vec_len part ≤ vec_capacity entries.old }
     requires ids { vec_len part ≤ length places.old.items }
     requires part { flat 0 (forest_of part.items) [] ≡ part.items }
     ensures document { IsDocument entries.new.items (length places.new.items) }
+    ensures spine { IsSpineOf entries.new.items spine.new.items }
     ensures next { length places.new.items ≡ length places.old.items }
     ensures forest { let first = length places.old.items - vec_len part in
         forest_of entries.new.items
@@ -227,6 +253,7 @@ pub(crate) fn put_part(
     let first = places.len() - part.len();
     relabel(&mut part, 0, span.depth, first);
     put_in(entries, span.at, part);
+    shorten(spine, span.at);
     note_places(entries, places, span.at);
 }
 

@@ -1,12 +1,14 @@
 //! The nodes of a document in a flat list.
 
-ghost use Rattle.std.specs.Prelude.{◌≡◌, ◌≢◌, ◌==◌, ◌+◌, ◌<◌, ◌≤◌, ◌^◌, All, IfNone, IfSome, IsSomeAnd, None, length, drop, find, position, reverse, nat_le, nat_lt, slice_get};
+ghost use Rattle.std.specs.Prelude.{◌≡◌, ◌≢◌, ◌==◌, ◌+◌, ◌<◌, ◌≤◌, ◌^◌, All, IfNone, IfOk, IfSome, IsSomeAnd, None, length, drop, find, position, reverse, nat_le, nat_lt, slice_get};
 ghost use Rattle.std.specs.List.{prefix_len};
 ghost use Rattle.std.specs.Option.{option_copied};
 ghost use Rattle.dom_forest.specs.Flat.{IsPlace};
 ghost use Rattle.dom_forest.specs.Runs.{below_at, deeper_id, kept, level_id, parent_step, previous_step};
 
 use crate::node::NewNode;
+use fizz_text::OutOfMemory;
+use std::alloc::Global;
 
 /// A node in document order: a node comes before its children, and they before its later siblings.
 #[derive(Debug, Drop)]
@@ -15,6 +17,21 @@ pub(crate) struct Entry {
     pub(crate) depth: usize,
     pub(crate) id: usize,
     pub(crate) node: NewNode,
+}
+
+/// Equal entries.
+pub(crate) fn copied(alloc: Global, entries: &[Entry]) -> Result<Vec<Entry>, OutOfMemory>
+    ensures { IfOk result (λ copies. copies.items ≡ entries.now) }
+{
+    let mut copies = Vec::with_capacity(alloc, entries.len())?;
+    for entry in entries {
+        copies.push(Entry {
+            depth: entry.depth,
+            id: entry.id,
+            node: entry.node.copy(alloc)?,
+        })?;
+    }
+    Ok(copies)
 }
 
 /// Where the node stands. `places` says where each one stood last, and is believed only where it still does.

@@ -12,6 +12,7 @@ mod ids;
 mod node;
 mod printing;
 mod queries;
+mod spine;
 #[cfg(test)]
 mod tests;
 

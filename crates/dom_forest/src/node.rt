@@ -1,6 +1,9 @@
 //! The nodes of a document that is edited.
 
-use fizz_text::{Attr, Attributes, Text};
+ghost use Rattle.std.specs.Prelude.{◌≡◌, IfOk};
+
+use fizz_text::{Attr, Attributes, OutOfMemory, Text};
+use std::alloc::Global;
 
 /// The name of a node within its document. A node keeps it as long as it is there.
 #[derive(Clone, Copy, Debug, PartialEq, Eq)]
@@ -27,6 +30,22 @@ pub enum NewNode {
     Element { name: Text, attributes: Attributes },
     Text(Text),
     Comment(Mark),
+}
+
+impl NewNode {
+    /// An equal node.
+    pub(crate) fn copy(&self, alloc: Global) -> Result<NewNode, OutOfMemory>
+        ensures { IfOk result (λ node. node ≡ self.now) }
+    {
+        match self {
+            NewNode::Element { name, attributes } => Ok(NewNode::Element {
+                name: name.copy(alloc)?,
+                attributes: attributes.copy(alloc)?,
+            }),
+            NewNode::Text(text) => Ok(NewNode::Text(text.copy(alloc)?)),
+            NewNode::Comment(mark) => Ok(NewNode::Comment(*mark)),
+        }
+    }
 }
 
 /// A node as it is seen in a document.

@@ -1,12 +1,16 @@
 //! The printing of a document of elements and texts.
 
-ghost use Rattle.std.specs.Prelude.{◌≡◌, ◌++◌, ◌∷◌, [], IfOk, OnOk};
+ghost use Rattle.std.specs.Prelude.{◌≡◌, ◌<◌, ◌++◌, ◌∷◌, [], Bool, false, IfOk, OnOk};
 ghost use Rattle.html_names.specs.Escape.{escaped};
-ghost use Rattle.dom_forest.specs.Printing.{attribute_bytes, attributes_bytes, end_tag, is_void, printed_nodes, tag_front, text_bytes};
+ghost use Rattle.dom_forest.specs.declared.document.DocNode.TheVariants.{Element};
+ghost use Rattle.dom_forest.specs.OpenElements.{left_bytes, work_left};
+ghost use Rattle.html_names.specs.Printing.{end_tag, tag_front, written_attribute, written_attributes};
+ghost use Rattle.dom_forest.specs.Printing.{is_void, printed_nodes, text_bytes};
 
 use crate::document::{Doc, DocNode};
-use fizz_text::{Attr, OutOfMemory, Text};
+use fizz_text::{Attr, Attributes, OutOfMemory, Text};
 use html_names::{element, push_escaped};
+use sqlite_items::Items;
 use std::alloc::Global;
 
 /// An element that was begun: its name for the end tag, and the siblings after it.
@@ -43,15 +47,7 @@ pub fn print_doc(alloc: Global, doc: &Doc) -> Result<Vec<u8>, OutOfMemory>
                     later,
                 ),
             ) => {
-                push_tag_front(&mut out, name, attributes.as_slice())?;
-                if is_void_name(name) {
-                    out.extend_from_slice(b"/>")?;
-                    rest = later;
-                } else {
-                    out.push(b'>')?;
-                    open.push(Open { name, later })?;
-                    rest = kids.as_slice();
-                }
+                rest = begin_element(&mut out, &mut open, name, attributes, kids, later)?;
                 after_text = false;
             }
             None => match open.pop() {
@@ -64,6 +60,30 @@ pub fn print_doc(alloc: Global, doc: &Doc) -> Result<Vec<u8>, OutOfMemory>
             },
         }
     }
+}
+
+/// Begins an element, or writes a void one. What is to be printed next comes back.
+fn begin_element<'a>(
+    out: &mut Vec<u8>,
+    unfinished: &mut Vec<Open<'a>>,
+    name: &'a Text,
+    attributes: &Attributes,
+    kids: &'a Items<DocNode>,
+    later: &'a [DocNode],
+) -> Result<&'a [DocNode], OutOfMemory>
+    ensures bytes { (after_text : Bool) → IfOk result (λ rest. out.new.items ++ left_bytes false rest.now unfinished.new.items
+        ≡ out.old.items ++ left_bytes after_text (Element name.now attributes.now kids.now ∷ later.now) unfinished.old.items) }
+    ensures fewer { IfOk result (λ rest. work_left rest.now unfinished.new.items
+        < work_left (Element name.now attributes.now kids.now ∷ later.now) unfinished.old.items) }
+{
+    push_tag_front(out, name, attributes.as_slice())?;
+    if is_void_name(name) {
+        out.extend_from_slice(b"/>")?;
+        return Ok(later);
+    }
+    out.push(b'>')?;
+    unfinished.push(Open { name, later })?;
+    Ok(kids.as_slice())
 }
 
 fn is_void_name(name: &Text) -> bool
@@ -91,7 +111,7 @@ fn push_tag_front(out: &mut Vec<u8>, name: &Text, attributes: &[Attr]) -> Result
 }
 
 fn push_attributes(out: &mut Vec<u8>, attributes: &[Attr]) -> Result<(), OutOfMemory>
-    ensures { OnOk result (out.new.items ≡ out.old.items ++ attributes_bytes attributes.now) }
+    ensures { OnOk result (out.new.items ≡ out.old.items ++ written_attributes attributes.now) }
 {
     for attribute in attributes {
         push_attribute(out, attribute)?;
@@ -100,7 +120,7 @@ fn push_attributes(out: &mut Vec<u8>, attributes: &[Attr]) -> Result<(), OutOfMe
 }
 
 fn push_attribute(out: &mut Vec<u8>, attribute: &Attr) -> Result<(), OutOfMemory>
-    ensures { OnOk result (out.new.items ≡ out.old.items ++ attribute_bytes attribute.now) }
+    ensures { OnOk result (out.new.items ≡ out.old.items ++ written_attribute attribute.now) }
 {
     out.push(b' ')?;
     out.extend_from_slice(attribute.name.as_bytes())?;

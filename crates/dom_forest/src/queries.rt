@@ -16,16 +16,17 @@ use crate::node::NewNode;
 
 /// The entries cut at a node.
 #[derive(Clone, Copy)]
-struct Cut<'a> {
-    before: &'a [Entry],
-    entry: &'a Entry,
-    after: &'a [Entry],
+pub(crate) struct Cut<'a> {
+    pub(crate) before: &'a [Entry],
+    pub(crate) entry: &'a Entry,
+    pub(crate) after: &'a [Entry],
 }
 
-fn cut_at<'a>(entries: &'a [Entry], places: &[usize], id: usize) -> Option<Cut<'a>>
+pub(crate) fn cut_at<'a>(entries: &'a [Entry], places: &[usize], id: usize) -> Option<Cut<'a>>
     requires { IsDocument entries.now (length places.now) }
     ensures whole { IfSome result (λ cut. entries.now ≡ cut.before.now ++ cut.entry.now ∷ cut.after.now) }
     ensures node { IfSome result (λ cut. cut.entry.now.id ≡ id) }
+    ensures deep { IfSome result (λ cut. cut.entry.now.depth ≤ length cut.before.now) }
     ensures absent { IfNone result (times id (forest_of entries.now) ≡ 0) }
 {
     let at = place_of(entries, places, id)?;
@@ -52,7 +53,6 @@ pub(crate) fn span_of(entries: &[Entry], places: &[usize], id: usize) -> Option<
     requires { IsDocument entries.now (length places.now) }
     ensures span { IfSome result (λ span. IsSpan entries.now span.at span.end span.depth id) }
     ensures there { OnSome result (IsThere id (forest_of entries.now)) }
-    ensures deep { IfSome result (λ span. span.depth < span.end) }
     ensures order { IfSome result (λ span. span.at < span.end) }
     ensures within { IfSome result (λ span. span.end ≤ length entries.now) }
     ensures absent { IfNone result (times id (forest_of entries.now) ≡ 0) }

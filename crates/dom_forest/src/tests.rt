@@ -322,6 +322,19 @@ fn nodes_and_neighbours_are_found(rt: HostRuntime) -> Result<(), Fail> {
 }
 
 #[test]
+fn documents_are_copied(rt: HostRuntime) -> Result<(), Fail> {
+    let alloc = rt.alloc();
+    let page = make_page(alloc)?;
+    let copy = page.dom.copy()?;
+    assert_eq!(rt;
+        outline(alloc, &copy)?.as_slice(),
+        b"div(x $? template p(wait) /$) y".as_slice()
+    );
+    assert_eq!(rt; copy.parent(page.mark), Some(page.root));
+    Ok(())
+}
+
+#[test]
 fn parts_are_taken_out(rt: HostRuntime) -> Result<(), Fail> {
     let alloc = rt.alloc();
     let Page {

@@ -1,6 +1,7 @@
 -- The elements that a page may have, with their names as HTML writes them. A void element has no content and no
 -- end tag.
-use Rattle.std.specs.Prelude.{◌≡◌, ℕ, Bool, true, false, List, [], ◌∷◌, codes, is_some, Option, Some}
+use Rattle.std.specs.Prelude.{◌≡◌, ℕ, Bool, true, false, List, [], ◌∷◌, codes, is_some, nat_eq, Option, Some}
+use Rattle.std.specs.List.{list_any, starts_with}
 use Rattle.std.specs.Map.{lookup}
 use Rattle.std.specs.Str.{bytes_eq}
 
@@ -72,3 +73,7 @@ IsElementName name = is_element_name name ≡ true
 
 abbrev pub IsVoidName : List ℕ → Type 0
 IsVoidName name = void_flag name ≡ Some true
+
+-- An element's name begins with the bytes.
+abbrev pub begins_name : List (List ℕ × Bool) → List ℕ → Bool
+begins_name rows bytes = list_any (λ (row : List ℕ × Bool). starts_with nat_eq row.0 bytes) rows

@@ -4,5 +4,6 @@ pub mod Escape
 pub mod Faults
 pub mod JsStrings
 pub mod Names
+pub mod Printing
 pub mod Rows
 pub mod Spellings

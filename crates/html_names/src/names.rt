@@ -5,7 +5,7 @@ ghost use Rattle.std.specs.List.{list_all};
 ghost use Rattle.std.specs.Map.{lookup};
 ghost use Rattle.std.specs.Str.{bytes_eq};
 ghost use Rattle.html_names.specs.Attributes.{Meaning, attribute_of, printed_name, is_spoken_byte, is_spoken_name, is_reserved};
-ghost use Rattle.html_names.specs.Elements.{IsElementName, void_flag};
+ghost use Rattle.html_names.specs.Elements.{IsElementName, begins_name, element_rows, void_flag};
 ghost use Rattle.html_names.specs.Names.{begins_with, is_plain_name};
 ghost use Rattle.html_names.specs.Rows.{row_of, meaning_of, attribute_row};
 
@@ -23,6 +23,25 @@ pub fn element(name: &[u8]) -> Option<Element>
         }),
         None => None,
     }
+}
+
+/// Whether an element's name begins with the bytes. It looks at each of the 51 rows.
+#[tactic(auto, unfolding(crate::specs::Elements::element_rows))]
+pub fn begins_element(bytes: &[u8]) -> bool
+    ensures { result ≡ begins_name element_rows bytes.now }
+{
+    any_begins(&ELEMENTS, bytes)
+}
+
+fn any_begins(rows: &[(&'static str, bool)], bytes: &[u8]) -> bool
+    ensures { result ≡ begins_name (map row_of rows.now) bytes.now }
+{
+    for row in rows {
+        if row.0.as_bytes().starts_with(bytes) {
+            return true;
+        }
+    }
+    false
 }
 
 /// The attribute that is written `name`, or `None` exactly where there is no such attribute: `name` is none of the

@@ -10,7 +10,8 @@ use Rattle.html_read.specs.declared.token.Tok.TheVariants as toks
 use Rattle.html_read.specs.declared.place.Place.{Place}
 use Rattle.html_read.specs.declared.machine.Mode.{Mode}
 use Rattle.html_read.specs.declared.machine.Mode.TheVariants.{Text, Name, EndName, Comment, Script, Space, Attribute, Equals, Value, Close, Slash}
-use Rattle.html_read.specs.Tokens.{written_attribute, script_end}
+use Rattle.html_names.specs.Printing.{written_attribute}
+use Rattle.html_read.specs.Tokens.{script_end}
 use Rattle.html_read.specs.Faults.{IsBegun}
 use Rattle.html_read.specs.Machine.{is_word, tag_words, start_words, comment_words}
 use Rattle.html_read.proofs.WordFronts.{none_true, begins_gives, tag_name_is, tag_of_flag, void_of_flag}

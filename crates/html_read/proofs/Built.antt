@@ -14,7 +14,8 @@ use Rattle.html_names.proofs.Utf8.{AreAscii, utf8_ascii}
 use Rattle.html_read.specs.declared.token.Tok.{Tok}
 use Rattle.html_read.specs.declared.token.Tok.TheVariants.{Start, End, Void, Text, Comment, Script}
 use Rattle.html_read.specs.Names.{is_letter, is_digit, continues_attribute_name, IsTagName, IsAttributeName}
-use Rattle.html_read.specs.Tokens.{written_value, written_attribute, written_attributes, HasValue, IsAttribute, AreAttributes, tag_front}
+use Rattle.html_names.specs.Printing.{written_value, written_attribute, written_attributes, tag_front}
+use Rattle.html_read.specs.Tokens.{HasValue, IsAttribute, AreAttributes}
 use Rattle.html_read.specs.Faults.{begins_tag}
 use Rattle.html_read.specs.Building.{front_len, IsTokenOf, EndsAttribute, EndsTag, IsAttributeOf, AreAttributesOf, IsTextTokenOf, IsEndOf, IsCommentOf, IsScriptOf, IsTagOf}
 use Rattle.html_read.proofs.WordFronts.{none_true, is_name_byte, is_name_word, begins_with_letter, tag_name_bytes, tag_name_letter, tag_name_not_script, tag_of_flag, flag_of_void}

@@ -20,7 +20,8 @@ use Rattle.html_read.specs.declared.machine.Mode.TheVariants.{Text, Name, EndNam
 use Rattle.html_read.specs.declared.machine.Turn.{Turn}
 use Rattle.html_read.specs.declared.machine.Turn.TheVariants.{Goes, Ends, Cuts, Fails}
 use Rattle.html_read.specs.Names.{is_letter, is_digit, continues_attribute_name, IsTagName, IsAttributeName}
-use Rattle.html_read.specs.Tokens.{written_attribute, written_attributes, IsAttribute, tag_front, script_end}
+use Rattle.html_names.specs.Printing.{written_attribute, written_attributes, tag_front}
+use Rattle.html_read.specs.Tokens.{IsAttribute, script_end}
 use Rattle.html_read.specs.Faults.{begins_tag, IsOpenValue, IsRun, IsUtf8Front, IsAtUtf8, IsAtEntity, IsAtText, IsAtComment, IsAtAttribute, HasKind}
 use Rattle.html_read.specs.Machine.{is_word, begins_word, start_words, tag_words, comment_words, tag_flag, char_start, starts_char, start_after, tail_after, entity_after, place_after, text_turn, value_turn, close_turn, flag_turn, after_name, name_turn, end_flag_turn, end_name_turn, comment_turn, script_turn, space_turn, attribute_turn, equals_turn, slash_turn, turn_of}
 use Rattle.html_read.proofs.WordFronts.{none_true, begins_gives, word_passes, is_name_byte, is_name_word, begins_with_letter, start_word_bytes, tag_name_bytes, tag_name_letter, tag_name_not_script, tag_of_flag, flag_of_tag}

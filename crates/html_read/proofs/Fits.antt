@@ -10,6 +10,7 @@ use Rattle.std.proofs.lemmas.Slice.Eq.{bytes_eq-Decides, ends_is}
 use Rattle.std.proofs.lemmas.Str.{IsUtf8-nil}
 use Rattle.fizz_text.specs.declared.attribute.Attr.{Attr}
 use Rattle.html_names.specs.Escape.{escaped, entities}
+use Rattle.html_names.specs.Elements.{element_rows}
 use Rattle.html_read.specs.declared.token.Said.{Said}
 use Rattle.html_read.specs.declared.token.Said.TheVariants as saids
 use Rattle.html_read.specs.declared.token.Tok.{Tok}
@@ -25,7 +26,8 @@ use Rattle.html_read.specs.declared.machine.Mode.TheVariants.{Text, Name, EndNam
 use Rattle.html_read.specs.declared.machine.Turn.{Turn}
 use Rattle.html_read.specs.declared.machine.Turn.TheVariants.{Goes, Ends, Cuts, Fails}
 use Rattle.html_read.specs.Names.{is_letter, is_digit, continues_attribute_name, IsAttributeName}
-use Rattle.html_read.specs.Tokens.{written_attribute, written_attributes, IsAttribute, AreAttributes, tag_front, said, script_end, IsScriptBody, spelling, IsTok, place_of, is_text}
+use Rattle.html_names.specs.Printing.{written_attribute, written_attributes, tag_front}
+use Rattle.html_read.specs.Tokens.{IsAttribute, AreAttributes, said, script_end, IsScriptBody, spelling, IsTok, place_of, is_text}
 use Rattle.html_read.specs.Machine.{is_word, begins_word, tag_words, start_words, comment_words, tag_flag, next_within, tail_after, starts_char, entity_after, place_after, text_turn, value_turn, close_turn, flag_turn, after_name, name_turn, end_flag_turn, end_name_turn, comment_turn, script_turn, space_turn, attribute_turn, equals_turn, slash_turn, turn_of}
 use Rattle.html_read.proofs.WordFronts.{none_true, tag_of_flag, void_of_flag}
 use Rattle.html_read.proofs.Runs.{HasRun, HasWhole, place_keeps}
@@ -230,7 +232,7 @@ no_script_end before after e =
     omega (arith, length-append before (script_end ++ after), length-append script_end after)
 
 begins_nothing : begins_word tag_words [] ≡ true
-unfolding tag_words
+unfolding tag_words element_rows
 begins_nothing = refl
 
 after_good : (name : List ℕ) (b : ℕ) → IsGoodTurn (60 ∷ name) b (after_name name b)

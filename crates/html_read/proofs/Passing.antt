@@ -8,6 +8,7 @@ use Rattle.std.proofs.lemmas.List.{drop_at, same_from_push}
 use Rattle.std.proofs.lemmas.Slice.Eq.{bytes_eq-Decides, ends_is}
 use Rattle.fizz_text.specs.declared.attribute.Attr.{Attr}
 use Rattle.html_names.specs.Escape.{escaped}
+use Rattle.html_names.specs.Elements.{element_rows}
 use Rattle.html_read.specs.declared.token.Said.{Said}
 use Rattle.html_read.specs.declared.token.Said.TheVariants as saids
 use Rattle.html_read.specs.declared.token.Tok.{Tok}
@@ -18,7 +19,8 @@ use Rattle.html_read.specs.declared.machine.Mode.{Mode}
 use Rattle.html_read.specs.declared.machine.Mode.TheVariants.{Name, EndName, Comment, Script, Space, Attribute, Value, Close, Slash}
 use Rattle.html_read.specs.declared.machine.Turn.TheVariants.{Goes, Ends, Fails}
 use Rattle.html_read.specs.Names.{is_letter, continues_attribute_name, IsTagName, IsAttributeName}
-use Rattle.html_read.specs.Tokens.{written_value, written_attribute, written_attributes, HasValue, AreAttributes, tag_front, said, script_end, IsScriptBody, spelling, IsTok, is_text}
+use Rattle.html_names.specs.Printing.{written_value, written_attribute, written_attributes, tag_front}
+use Rattle.html_read.specs.Tokens.{HasValue, AreAttributes, said, script_end, IsScriptBody, spelling, IsTok, is_text}
 use Rattle.html_read.specs.Machine.{is_word, begins_word, tag_words, start_words, tag_flag, close_turn, flag_turn, end_flag_turn, go_on, mode_after}
 use Rattle.html_read.proofs.WordFronts.{none_true, begins_gives, is_name_byte, begins_with_letter, start_word_bytes, tag_name_letter, tag_name_is, tag_name_not_script, tag_of_flag, flag_of_tag, flag_of_void}
 use Rattle.html_read.proofs.Fits.{script_goes}
@@ -173,7 +175,7 @@ void_passes name attributes f h =
     }
 
 slash_goes : turn_at Name (60 ∷ []) 47 ≡ Goes EndName
-unfolding tag_words
+unfolding tag_words element_rows
 slash_goes = refl
 
 end_passes : (name : List ℕ) → IsTagName name → Passes (codes "</" ++ (name ++ codes ">"))
@@ -188,7 +190,7 @@ end_passes name t =
     }
 
 bang_goes : turn_at Name (60 ∷ []) 33 ≡ Goes Comment
-unfolding tag_words
+unfolding tag_words element_rows
 bang_goes = refl
 
 comment_on : (front : List ℕ) → mode_after Comment (60 ∷ 33 ∷ []) front ≡ Some Comment → mode_after Name (60 ∷ []) (33 ∷ front) ≡ Some Comment
@@ -231,7 +233,7 @@ script_on body (b ∷ more) fine =
     ∙ script_on (body ++ b ∷ []) more shifted
 
 script_begins : turn_at Name (codes "<script") 62 ≡ Goes Script
-unfolding tag_words
+unfolding tag_words element_rows
 script_begins = refl
 
 script_passes : (body : List ℕ) → IsScriptBody body → Passes (codes "<script>" ++ (body ++ script_end))

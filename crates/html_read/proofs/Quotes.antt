@@ -11,7 +11,8 @@ use Rattle.html_names.proofs.Escaping.{each_byte, plain_spelling}
 use Rattle.html_read.specs.declared.place.Place.{Place}
 use Rattle.html_read.specs.declared.place.Place.TheVariants.{Whole, Char, Entity}
 use Rattle.html_read.specs.Names.{is_letter, continues_attribute_name, IsTagName, IsAttributeName}
-use Rattle.html_read.specs.Tokens.{written_value, written_attribute, written_attributes, IsAttribute, AreAttributes, tag_front}
+use Rattle.html_names.specs.Printing.{written_value, written_attribute, written_attributes, tag_front}
+use Rattle.html_read.specs.Tokens.{IsAttribute, AreAttributes}
 use Rattle.html_read.specs.Faults.{IsOpenValue}
 use Rattle.html_read.specs.Machine.{is_word}
 use Rattle.html_read.proofs.WordFronts.{none_true, begins_gives, word_passes, is_name_byte, is_name_word, tag_name_bytes}

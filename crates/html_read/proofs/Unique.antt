@@ -1,9 +1,9 @@
 -- Bytes are one list of tokens.
-use Rattle.std.proofs.Common.{◌≡◌, ◌≢◌, ℕ, suc, ◌+◌, ◌<◌, Bool, true, false, if◌then◌else◌, not, nat_eq, ◌==◌, Option, Some, None, List, [], ◌∷◌, ◌++◌, length, drop, take, codes, refl, sym, ◌∙◌, ap, subst, ⊎_elim, arith, append-nil, append_assoc, length-append}
+use Rattle.std.proofs.Common.{◌≡◌, ◌≢◌, ℕ, suc, ◌+◌, ◌<◌, Bool, true, false, if◌then◌else◌, not, nat_eq, ◌==◌, ◌⊎◌, Option, Some, None, List, [], ◌∷◌, ◌++◌, length, drop, take, codes, refl, sym, ◌∙◌, ap, subst, ⊎_elim, arith, append-nil, append_assoc, length-append}
 use Rattle.std.specs.List.{list_all, starts_with}
 use Rattle.std.specs.Str.{bytes_eq}
-use Rattle.std.proofs.lemmas.Bool.{cond-true, cases_Bool, ne_eqb, eqb-false, and_left, and_parts, and_from, false_from_ne_true}
-use Rattle.std.proofs.lemmas.List.{append_cancel_right, append_cancel_left, take_at}
+use Rattle.std.proofs.lemmas.Bool.{cond-true, cases_Bool, ne_eqb, eqb-true, eqb-false, and_left, and_parts, and_from, false_from_ne_true}
+use Rattle.std.proofs.lemmas.List.{append_cancel_right, append_cancel_left, take_at, nil_from_length}
 use Rattle.fizz_text.specs.declared.attribute.Attr.{Attr}
 use Rattle.html_names.specs.Escape.{spelling_of, escaped}
 use Rattle.html_names.proofs.Escaping.{each_byte, plain_spelling, escaped_injective, spelling_some}
@@ -16,8 +16,9 @@ use Rattle.html_read.specs.declared.machine.Mode.TheVariants as modes
 use Rattle.html_read.specs.declared.machine.Turn.{Turn}
 use Rattle.html_read.specs.declared.machine.Turn.TheVariants.{Goes, Ends, Cuts, Fails}
 use Rattle.html_read.specs.Names.{continues_attribute_name, IsTagName}
-use Rattle.html_read.specs.Tokens.{written_value, written_attribute, written_attributes, IsAttribute, AreAttributes, tag_front, said, script_end, spelling, spellings, IsTok, AreTokensFrom, MayFollow, Tokenizes, place_of, is_text}
-use Rattle.html_read.specs.Faults.{begins_tag}
+use Rattle.html_names.specs.Printing.{written_value, written_attribute, written_attributes, tag_front}
+use Rattle.html_read.specs.Tokens.{IsAttribute, AreAttributes, said, script_end, spelling, spellings, IsTok, AreTokensFrom, MayFollow, AreTokens, Tokenizes, place_of, is_text}
+use Rattle.html_read.specs.Faults.{begins_tag, ends_in_text, IsBegun, Splits}
 use Rattle.html_read.specs.Building.{front_len, IsTokenOf, EndsAttribute, EndsTag, IsTagOf}
 use Rattle.html_read.specs.Machine.{go_on, mode_after}
 use Rattle.html_read.proofs.WordFronts.{none_true, tag_of_flag, flag_of_void}
@@ -270,21 +271,17 @@ text_begins (Text text from) rest h t s = nothing_begins rest s text h.0
 text_begins (Comment which from) rest h t s = absurd (none_true t)
 text_begins (Script body from) rest h t s = absurd (none_true t)
 
-first_same : (a b : Tok) (xs ys : List Tok) (m n : ℕ) → IsTok a → IsTok b → AreTokensFrom m (is_text a) xs → AreTokensFrom n (is_text b) ys → spelling a ++ spellings xs ≡ spelling b ++ spellings ys → spelling a ≡ spelling b
-first_same a b xs ys m n h k are others e =
+-- Of two tokens at the front of the same bytes, neither a text that goes on, the bytes are the same.
+first_same : (a b : Tok) (xs ys : List ℕ) → IsTok a → IsTok b → (is_text a ≡ true → Stops xs) → (is_text b ≡ true → Stops ys) → spelling a ++ xs ≡ spelling b ++ ys → spelling a ≡ spelling b
+first_same a b xs ys h k stop halt e =
     let tt_case : is_text a ≡ true → is_text b ≡ true → spelling a ≡ spelling b = λ s t.
-    let sa : Stops (spellings xs) = stops_after xs m (subst (λ x. AreTokensFrom m x xs) s are) in
-    let sb : Stops (spellings ys) = stops_after ys n (subst (λ x. AreTokensFrom n x ys) t others) in
-    same_front (spelling a) (spelling b) (spellings xs) (spellings ys) (text_len a (spellings xs) s sa ∙ (ap (front_len no_tag) e ∙ sym (text_len b (spellings ys) t sb))) e in
+    same_front (spelling a) (spelling b) xs ys (text_len a xs s (stop s) ∙ (ap (front_len no_tag) e ∙ sym (text_len b ys t (halt t)))) e in
     let tf_case : is_text a ≡ true → is_text b ≡ false → spelling a ≡ spelling b = λ s t.
-    let sa : Stops (spellings xs) = stops_after xs m (subst (λ x. AreTokensFrom m x xs) s are) in
-    absurd (none_true (sym (text_begins a (spellings xs) h s sa) ∙ (ap begins_tag e ∙ other_begins b (spellings ys) k t))) in
+    absurd (none_true (sym (text_begins a xs h s (stop s)) ∙ (ap begins_tag e ∙ other_begins b ys k t))) in
     let ft_case : is_text a ≡ false → is_text b ≡ true → spelling a ≡ spelling b = λ s t.
-    let sb : Stops (spellings ys) = stops_after ys n (subst (λ x. AreTokensFrom n x ys) t others) in
-    absurd (none_true (sym (text_begins b (spellings ys) k t sb) ∙ (ap begins_tag (sym e) ∙ other_begins a (spellings xs) h s))) in
+    absurd (none_true (sym (text_begins b ys k t (halt t)) ∙ (ap begins_tag (sym e) ∙ other_begins a xs h s))) in
     let ff_case : is_text a ≡ false → is_text b ≡ false → spelling a ≡ spelling b = λ s t.
-    same_front (spelling a) (spelling b) (spellings xs) (spellings ys)
-    (tok_len a (spellings xs) h s ∙ (ap (λ x. ends_len modes.Name (60 ∷ []) (drop 1 x) + 1) e ∙ sym (tok_len b (spellings ys) k t))) e in
+    same_front (spelling a) (spelling b) xs ys (tok_len a xs h s ∙ (ap (λ x. ends_len modes.Name (60 ∷ []) (drop 1 x) + 1) e ∙ sym (tok_len b ys k t))) e in
     ⊎_elim (λ s. ⊎_elim (tt_case s) (tf_case s) (cases_Bool (is_text b))) (λ s. ⊎_elim (ft_case s) (ff_case s) (cases_Bool (is_text b))) (cases_Bool (is_text a))
 
 some_bytes : (tok : Tok) → IsTok tok → 0 < length (spelling tok)
@@ -307,7 +304,9 @@ same_lists [] [] place after h k e = refl
 same_lists [] (b ∷ ys) place after h k e = absurd (nothing_left b ys k.0 e)
 same_lists (a ∷ xs) [] place after h k e = absurd (nothing_left a xs h.0 (sym e))
 same_lists (a ∷ xs) (b ∷ ys) place after h k e =
-    let front : spelling a ≡ spelling b = first_same a b xs ys (place + length (spelling a)) (place + length (spelling b)) h.0 k.0 h.3 k.3 e in
+    let front : spelling a ≡ spelling b = first_same a b (spellings xs) (spellings ys) h.0 k.0
+    (λ t. stops_after xs (place + length (spelling a)) (subst (λ x. AreTokensFrom (place + length (spelling a)) x xs) t h.3))
+    (λ t. stops_after ys (place + length (spelling b)) (subst (λ x. AreTokensFrom (place + length (spelling b)) x ys) t k.3)) e in
     let first : a ≡ b = token_same a b h.0 k.0 front (h.1 ∙ sym k.1) in
     let rest : spellings xs ≡ spellings ys = append_cancel_left (spelling a) (spellings xs) (spellings ys) (e ∙ ap (λ x. x ++ spellings ys) (sym front)) in
     let later : AreTokensFrom (place + length (spelling a)) (is_text a) ys = subst (λ t. AreTokensFrom (place + length (spelling t)) (is_text t) ys) (sym first) k.3 in
@@ -316,3 +315,86 @@ same_lists (a ∷ xs) (b ∷ ys) place after h k e =
 -- Two readings of one stream are one.
 pub one_list : (bytes : List ℕ) (a b : List Tok) → Tokenizes bytes a → Tokenizes bytes b → a ≡ b
 one_list bytes a b s t = same_lists a b 0 false s.tokens t.tokens (sym s.spelled ∙ t.spelled)
+
+tag_stops : (bytes : List ℕ) → begins_tag bytes ≡ true → Stops bytes
+tag_stops [] h = tt
+tag_stops (b ∷ bs) h = eqb-true b 60 h
+
+tag_on : (bytes more : List ℕ) → begins_tag bytes ≡ true → begins_tag (bytes ++ more) ≡ true
+tag_on [] more h = absurd (none_true h)
+tag_on (b ∷ bs) more h = h
+
+-- What follows a text begins with `<`.
+tag_follows : (toks : List Tok) (place : ℕ) (text : Bool) (more : List ℕ) → AreTokensFrom place text toks → (ends_in_text text toks ≡ true → begins_tag more ≡ true) → text ≡ true
+    → begins_tag (spellings toks ++ more) ≡ true
+tag_follows [] place text more h e t = e t
+tag_follows (tok ∷ toks) place text more h e t =
+    ap begins_tag (append_assoc (spelling tok) (spellings toks) more) ∙ other_begins tok (spellings toks ++ more) h.0 (not_text (is_text tok) (subst (λ x. MayFollow x (is_text tok)) t h.2))
+
+-- A whole token does not stand in one that has not ended.
+not_begun : (a tok : Tok) (xs more : List ℕ) → IsTok a → IsTok tok → (is_text a ≡ true → begins_tag xs ≡ true) → (is_text tok ≡ true) ⊎ (more ≢ []) → (spelling a ++ xs) ++ more ≡ spelling tok → ⊥
+not_begun a tok xs more h k follows ending e =
+    let split : spelling a ++ (xs ++ more) ≡ spelling tok ++ [] = sym (append_assoc (spelling a) xs more) ∙ (e ∙ sym (append-nil (spelling tok))) in
+    let same : spelling a ≡ spelling tok = first_same a tok (xs ++ more) [] h k (λ t. tag_stops (xs ++ more) (tag_on xs more (follows t))) (λ t. tt) split in
+    let nothing : xs ++ more ≡ [] = append_cancel_left (spelling a) (xs ++ more) [] (split ∙ ap (λ x. x ++ []) (sym same)) in
+    let text_case : is_text a ≡ true → ⊥ = λ t. none_true (ap begins_tag (sym nothing) ∙ tag_on xs more (follows t)) in
+    let other_case : is_text a ≡ false → ⊥ = λ n.
+    ⊎_elim
+    (λ t. none_true (sym (text_begins tok [] k t tt) ∙ (ap (λ x. begins_tag (x ++ [])) (sym same) ∙ other_begins a [] h n)))
+    (λ some. some (nothing_after xs more nothing)) ending in
+    ⊎_elim text_case other_case (cases_Bool (is_text a))
+  where
+    nothing_after : (xs more : List ℕ) → xs ++ more ≡ [] → more ≡ []
+    nothing_after [] more e = e
+    nothing_after (x ∷ xs) more e = absurd (no_nil x (xs ++ more) e)
+      where
+        no_nil : (y : ℕ) (ys : List ℕ) → y ∷ ys ≡ [] → ⊥
+        no_nil y ys e = cc
+
+-- Tokens, and those after them.
+pub record Further (front toks : List Tok) : Type 0 where
+  pub more : List Tok
+  pub are : toks ≡ front ++ more
+
+front_from : (front toks : List Tok) (place : ℕ) (after : Bool) (more rest : List ℕ) → AreTokensFrom place after front → AreTokensFrom place after toks → spellings front ++ more ≡ spellings toks ++ rest
+    → (ends_in_text after front ≡ true → begins_tag more ≡ true) → (ends_in_text after toks ≡ true → begins_tag rest ≡ true) → (rest ≡ []) ⊎ IsBegun rest → Further front toks
+front_from [] toks place after more rest h k e f g begun = record { more = toks; are = refl }
+front_from (a ∷ xs) [] place after more rest h k e f g begun =
+    let split : spelling a ++ (spellings xs ++ more) ≡ rest = sym (append_assoc (spelling a) (spellings xs) more) ∙ e in
+    ⊎_elim
+    (λ none. absurd (nothing_here a (spellings xs ++ more) h.0 (split ∙ none)))
+    (λ begun. absurd (not_begun a begun.1 (spellings xs ++ more) begun.0 h.0 begun.2 (tag_follows xs (place + length (spelling a)) (is_text a) more h.3 f) begun.4 (ap (λ x. x ++ begun.0) split ∙ begun.3))) begun
+  where
+    nothing_here : (tok : Tok) (xs : List ℕ) → IsTok tok → spelling tok ++ xs ≡ [] → ⊥
+    nothing_here tok xs h e = let n : length (spelling tok ++ xs) ≡ 0 = ap length e in omega (arith, some_bytes tok h, length-append (spelling tok) xs)
+front_from (a ∷ xs) (b ∷ ys) place after more rest h k e f g begun =
+    let split : spelling a ++ (spellings xs ++ more) ≡ spelling b ++ (spellings ys ++ rest) =
+    sym (append_assoc (spelling a) (spellings xs) more) ∙ (e ∙ append_assoc (spelling b) (spellings ys) rest) in
+    let same : spelling a ≡ spelling b = first_same a b (spellings xs ++ more) (spellings ys ++ rest) h.0 k.0
+    (λ t. tag_stops _ (tag_follows xs (place + length (spelling a)) (is_text a) more h.3 f t)) (λ t. tag_stops _ (tag_follows ys (place + length (spelling b)) (is_text b) rest k.3 g t)) split in
+    let first : a ≡ b = token_same a b h.0 k.0 same (h.1 ∙ sym k.1) in
+    let later : spellings xs ++ more ≡ spellings ys ++ rest = append_cancel_left (spelling a) _ _ (split ∙ ap (λ x. x ++ (spellings ys ++ rest)) (sym same)) in
+    let are : AreTokensFrom (place + length (spelling a)) (is_text a) ys = subst (λ t. AreTokensFrom (place + length (spelling t)) (is_text t) ys) (sym first) k.3 in
+    let ended : ends_in_text (is_text a) ys ≡ true → begins_tag rest ≡ true = subst (λ t. ends_in_text (is_text t) ys ≡ true → begins_tag rest ≡ true) (sym first) g in
+    let others : Further xs ys = front_from xs ys (place + length (spelling a)) (is_text a) more rest h.3 are later f ended begun in
+    record { more = others.more; are = (λ i. sym first i ∷ others.are i) }
+
+-- Whatever tokens spell a front of the bytes are the first of them.
+pub front_list : (bytes : List ℕ) (front toks : List Tok) (more rest : List ℕ) → AreTokens front → bytes ≡ spellings front ++ more → (ends_in_text false front ≡ true → begins_tag more ≡ true) → Splits bytes toks rest
+    → (further : List Tok) × (toks ≡ front ++ further)
+front_list bytes front toks more rest h e f s =
+    let others : Further front toks = front_from front toks 0 false more rest h s.tokens (sym e ∙ s.whole) f s.ended s.begun in
+    (others.more, others.are)
+
+both_ways : (a b : List Tok) → Further a b → Further b a → a ≡ b
+both_ways a b f g =
+    let none : f.more ≡ [] = nil_from_length f.more (omega (arith, ap length f.are, ap length g.are, length-append a f.more, length-append b g.more)) in
+    sym (f.are ∙ (ap (λ x. a ++ x) none ∙ append-nil a))
+
+-- What has been read splits in one way.
+pub one_split : (bytes : List ℕ) (a b : List Tok) (r s : List ℕ) → Splits bytes a r → Splits bytes b s → (a ≡ b) × (r ≡ s)
+one_split bytes a b r s p q =
+    let f : Further a b = front_from a b 0 false r s p.tokens q.tokens (sym p.whole ∙ q.whole) p.ended q.ended q.begun in
+    let g : Further b a = front_from b a 0 false s r q.tokens p.tokens (sym q.whole ∙ p.whole) q.ended p.ended p.begun in
+    let same : a ≡ b = both_ways a b f g in
+    (same, append_cancel_left (spellings a) r s (sym p.whole ∙ (q.whole ∙ ap (λ x. spellings x ++ s) (sym same))))

@@ -6,7 +6,7 @@ use Rattle.std.specs.Str.{bytes_eq}
 use Rattle.std.proofs.lemmas.Bool.{or_cases, or_left, or_right, and_parts, cases_Bool, true≢false}
 use Rattle.std.proofs.lemmas.Bool.Decides.{Decides-eqb}
 use Rattle.std.proofs.lemmas.Slice.Eq.{bytes_eq-Decides, starts_is}
-use Rattle.html_names.specs.Elements.{element_rows, void_flag, IsVoidName}
+use Rattle.html_names.specs.Elements.{begins_name, element_rows, void_flag, IsVoidName}
 use Rattle.html_read.specs.Names.{is_letter, is_digit, is_tag_name, IsTagName}
 use Rattle.html_read.specs.Machine.{is_word, begins_word, tag_words, start_words, tag_flag}
 
@@ -62,7 +62,7 @@ abbrev template_word : List (List ℕ)
 template_word = codes "template" ∷ []
 
 words_are : tag_words ≡ map name_in element_rows ++ template_word
-unfolding tag_words element_rows
+unfolding tag_words
 words_are = refl
 
 template_eq : (w : List ℕ) → bytes_eq w (codes "template") ≡ is_word template_word w
@@ -89,15 +89,15 @@ begins_with_letter [] = false
 begins_with_letter (b ∷ bs) = is_letter b
 
 all_name_words : list_all is_name_word tag_words ≡ true
-unfolding tag_words
+unfolding tag_words element_rows
 all_name_words = refl
 
 all_letter_words : list_all begins_with_letter tag_words ≡ true
-unfolding tag_words
+unfolding tag_words element_rows
 all_letter_words = refl
 
 script_is_none : is_word tag_words (codes "script") ≡ false
-unfolding tag_words
+unfolding tag_words element_rows
 script_is_none = refl
 
 pub tag_name_bytes : (w : List ℕ) → IsTagName w → is_name_word w ≡ true
@@ -163,3 +163,21 @@ void_of_flag w h =
     let f : Some false ≡ Some true = rw e at h in absurd (none_true (false_true false true f)) in
     let other : bytes_eq w (codes "template") ≡ false → IsVoidName w = λ e. rw e at h in
     ⊎_elim template other (cases_Bool (bytes_eq w (codes "template")))
+
+-- The words of tags begin as the names of elements do, or as `template`.
+fronts_append : (xs ys : List (List ℕ)) (w : List ℕ) → begins_word (xs ++ ys) w ≡ (begins_word xs w || begins_word ys w)
+fronts_append [] ys w = refl
+fronts_append (x ∷ xs) ys w = elim (starts_with nat_eq x w) as (λ b. (b || begins_word (xs ++ ys) w) ≡ ((b || begins_word xs w) || begins_word ys w)) [ true ↦ refl | false ↦ fronts_append xs ys w ]
+
+row_front : (rows : List (List ℕ × Bool)) (w : List ℕ) → begins_word (map name_in rows) w ≡ begins_name rows w
+row_front [] w = refl
+row_front (r ∷ rows) w = ap (λ b. starts_with nat_eq r.0 w || b) (row_front rows w)
+
+or_false : (b : Bool) → (b || false) ≡ b
+or_false true = refl
+or_false false = refl
+
+pub tag_front_is : (w : List ℕ) → begins_word tag_words w ≡ (begins_name element_rows w || starts_with nat_eq (codes "template") w)
+tag_front_is w =
+    ap (λ words. begins_word words w) words_are ∙ fronts_append (map name_in element_rows) template_word w
+    ∙ ap (λ b. b || begins_word template_word w) (row_front element_rows w) ∙ ap (λ b. begins_name element_rows w || b) (or_false (starts_with nat_eq (codes "template") w))

@@ -7,7 +7,8 @@ use Rattle.html_read.specs.declared.token.Tok.{Tok}
 use Rattle.html_read.specs.declared.token.Said.{Said}
 use Rattle.html_read.specs.declared.token.Tok.TheVariants.{Start, End, Void, Text, Comment, Script}
 use Rattle.html_read.specs.Names.{continues_attribute_name, IsTagName}
-use Rattle.html_read.specs.Tokens.{spelling, place_of, IsTok, IsAttribute, AreAttributes, written_attribute, written_attributes}
+use Rattle.html_names.specs.Printing.{written_attribute, written_attributes}
+use Rattle.html_read.specs.Tokens.{spelling, place_of, IsTok, IsAttribute, AreAttributes}
 
 -- how many bytes at the front pass the test
 abbrev pub front_len : (ℕ → Bool) → List ℕ → ℕ

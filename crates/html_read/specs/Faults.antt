@@ -8,7 +8,8 @@ use Rattle.html_read.specs.declared.token.Tok.{Tok}
 use Rattle.html_read.specs.declared.fault.ReadKind.{ReadKind}
 use Rattle.html_read.specs.declared.fault.ReadKind.TheVariants.{Name, Attribute, Entity, Comment, Text, Utf8}
 use Rattle.html_read.specs.Names.{is_letter, is_digit, IsTagName, IsAttributeName}
-use Rattle.html_read.specs.Tokens.{AreAttributes, tag_front, spelling, spellings, is_text, IsTok, AreTokens, Tokenizes}
+use Rattle.html_names.specs.Printing.{tag_front}
+use Rattle.html_read.specs.Tokens.{AreAttributes, spelling, spellings, is_text, IsTok, AreTokens, Tokenizes}
 
 -- The bytes can go on so that they are tokens.
 abbrev pub IsAlive : List ℕ → Type 0

@@ -1,8 +1,8 @@
 -- What the reader's step does, for its private functions. No public clause rests on this file.
-use Rattle.std.specs.Prelude.{ℕ, ◌-◌, Bool, true, false, if◌then◌else◌, ◌&&◌, ◌||◌, ◌==◌, nat_eq, nat_lt, nat_le, Option, Some, None, Result, Ok, Err, is_ok, List, [], ◌∷◌, ◌++◌, length, drop, codes}
+use Rattle.std.specs.Prelude.{ℕ, ◌-◌, Bool, true, false, if◌then◌else◌, ◌&&◌, ◌||◌, ◌==◌, nat_eq, nat_lt, nat_le, Option, Some, None, Result, Ok, Err, is_ok, List, [], ◌∷◌, ◌++◌, length, drop, map, codes}
 use Rattle.std.specs.List.{list_any, starts_with, ends_with}
 use Rattle.std.specs.Str.{bytes_eq}
-use Rattle.html_names.specs.Elements.{void_flag}
+use Rattle.html_names.specs.Elements.{element_rows, void_flag}
 use Rattle.html_names.specs.Escape.{entities}
 use Rattle.html_read.specs.declared.fault.ReadKind.TheVariants as kinds
 use Rattle.html_read.specs.declared.place.Tail.{Tail}
@@ -27,7 +27,7 @@ begins_word words bytes = list_any (λ w. starts_with nat_eq w bytes) words
 
 -- the names of tags
 unfoldable pub tag_words : List (List ℕ)
-tag_words = codes "a" ∷ codes "abbr" ∷ codes "address" ∷ codes "article" ∷ codes "aside" ∷ codes "b" ∷ codes "blockquote" ∷ codes "br" ∷ codes "button" ∷ codes "cite" ∷ codes "code" ∷ codes "dd" ∷ codes "details" ∷ codes "div" ∷ codes "dl" ∷ codes "dt" ∷ codes "em" ∷ codes "figcaption" ∷ codes "figure" ∷ codes "footer" ∷ codes "h1" ∷ codes "h2" ∷ codes "h3" ∷ codes "h4" ∷ codes "h5" ∷ codes "h6" ∷ codes "header" ∷ codes "hr" ∷ codes "i" ∷ codes "kbd" ∷ codes "label" ∷ codes "li" ∷ codes "main" ∷ codes "mark" ∷ codes "nav" ∷ codes "ol" ∷ codes "p" ∷ codes "q" ∷ codes "s" ∷ codes "samp" ∷ codes "section" ∷ codes "small" ∷ codes "span" ∷ codes "strong" ∷ codes "sub" ∷ codes "summary" ∷ codes "sup" ∷ codes "u" ∷ codes "ul" ∷ codes "var" ∷ codes "wbr" ∷ codes "template" ∷ []
+tag_words = map (λ (row : List ℕ × Bool). row.0) element_rows ++ codes "template" ∷ []
 
 -- what begins with `<` and a letter has one of these names
 abbrev pub start_words : List (List ℕ)

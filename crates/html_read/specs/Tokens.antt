@@ -6,22 +6,12 @@ use Rattle.std.specs.Str.{IsUtf8}
 use Rattle.fizz_text.specs.declared.attribute.Attr.{Attr}
 use Rattle.html_names.specs.Elements.{IsVoidName}
 use Rattle.html_names.specs.Escape.{escaped}
+use Rattle.html_names.specs.Printing.{tag_front, end_tag}
 use Rattle.html_read.specs.declared.token.Said.{Said}
 use Rattle.html_read.specs.declared.token.Said.TheVariants.{Complete, Pending, Client, End as EndOfBoundary, Space}
 use Rattle.html_read.specs.declared.token.Tok.{Tok}
 use Rattle.html_read.specs.declared.token.Tok.TheVariants.{Start, End, Void, Text, Comment, Script}
 use Rattle.html_read.specs.Names.{IsTagName, IsAttributeName}
-
--- ` name="value"` with the value escaped, or ` hidden` alone.
-abbrev pub written_value : Option (List ℕ) → List ℕ
-written_value None = []
-written_value (Some value) = codes "=\"" ++ (escaped value ++ codes "\"")
-
-abbrev pub written_attribute : Attr → List ℕ
-written_attribute a = 32 ∷ a.name ++ written_value a.value
-
-abbrev pub written_attributes : List Attr → List ℕ
-written_attributes attributes = flat_map written_attribute attributes
 
 -- An attribute has a value that is a text, or is `hidden` without one.
 abbrev pub HasValue : List ℕ → Option (List ℕ) → Type 0
@@ -34,10 +24,6 @@ IsAttribute a = IsAttributeName a.name × HasValue a.name a.value
 abbrev pub AreAttributes : List Attr → Type 0
 AreAttributes [] = Unit {0}
 AreAttributes (a ∷ more) = IsAttribute a × AreAttributes more
-
--- A start tag or a void tag up to its end.
-abbrev pub tag_front : List ℕ → List Attr → List ℕ
-tag_front name attributes = 60 ∷ name ++ written_attributes attributes
 
 -- What a comment says: the marks of boundaries, or the space between two texts.
 abbrev pub said : Said → List ℕ
@@ -57,7 +43,7 @@ IsScriptBody body = (before after : List ℕ) → body ≡ before ++ (script_end
 -- The bytes of a token.
 abbrev pub spelling : Tok → List ℕ
 spelling (Start name attributes from) = tag_front name attributes ++ codes ">"
-spelling (End name from) = codes "</" ++ (name ++ codes ">")
+spelling (End name from) = end_tag name
 spelling (Void name attributes from) = tag_front name attributes ++ codes "/>"
 spelling (Text text from) = escaped text
 spelling (Comment which from) = codes "<!--" ++ (said which ++ codes "-->")

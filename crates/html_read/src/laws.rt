@@ -1,12 +1,15 @@
 //! What holds of pages and of readings, whatever reader there is.
 
-ghost use Rattle.std.specs.Prelude.{◌≡◌, ℕ, List};
+ghost use Rattle.std.specs.Prelude.{◌≡◌, ℕ, true, false, List, ◌++◌};
 ghost use Rattle.html_read.specs.declared.token.Tok.{Tok as Token};
-ghost use Rattle.html_read.specs.Faults.{IsAlive, Splits};
-ghost use Rattle.html_read.specs.Tokens.{Tokenizes};
+ghost use Rattle.html_read.specs.Faults.{IsAlive, Splits, begins_tag, ends_in_text};
+ghost use Rattle.html_read.specs.Tokens.{AreTokens, Tokenizes, spellings};
 
-/// Two readings of one stream are one, and what has been read so far can go on to be a page.
+/// Two readings of one stream are one, and what has been read so far can go on to be a page. What has been read splits in
+/// one way, and whatever tokens spell a front of it are the first ones.
 pub fn laws_of_tokens()
     ensures one { (bytes : List ℕ) (a b : List Token) → Tokenizes bytes a → Tokenizes bytes b → a ≡ b }
     ensures alive { (bytes : List ℕ) (toks : List Token) (rest : List ℕ) → Splits bytes toks rest → IsAlive bytes }
+    ensures front { (bytes : List ℕ) (front toks : List Token) (more rest : List ℕ) → AreTokens front → bytes ≡ spellings front ++ more → (ends_in_text false front ≡ true → begins_tag more ≡ true) → Splits bytes toks rest → (further : List Token) × (toks ≡ front ++ further) }
+    ensures split { (bytes : List ℕ) (a b : List Token) (r s : List ℕ) → Splits bytes a r → Splits bytes b s → (a ≡ b) × (r ≡ s) }
 {}

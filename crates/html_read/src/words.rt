@@ -1,67 +1,11 @@
 //! The words that a tag, a comment or a replacement may be.
 
-ghost use Rattle.std.specs.Prelude.{◌≡◌, map, drop};
+ghost use Rattle.std.specs.Prelude.{◌≡◌, codes, map, nat_eq, drop};
+ghost use Rattle.std.specs.List.{starts_with};
 ghost use Rattle.html_names.specs.Escape.{entities};
 ghost use Rattle.html_read.specs.Machine.{is_word, begins_word, tag_words, start_words, comment_words, tag_flag};
 
-use html_names::element;
-
-/// The names of tags, and before them `script`.
-pub(crate) static START_WORDS: [&str; 53] = [
-    "script",
-    "a",
-    "abbr",
-    "address",
-    "article",
-    "aside",
-    "b",
-    "blockquote",
-    "br",
-    "button",
-    "cite",
-    "code",
-    "dd",
-    "details",
-    "div",
-    "dl",
-    "dt",
-    "em",
-    "figcaption",
-    "figure",
-    "footer",
-    "h1",
-    "h2",
-    "h3",
-    "h4",
-    "h5",
-    "h6",
-    "header",
-    "hr",
-    "i",
-    "kbd",
-    "label",
-    "li",
-    "main",
-    "mark",
-    "nav",
-    "ol",
-    "p",
-    "q",
-    "s",
-    "samp",
-    "section",
-    "small",
-    "span",
-    "strong",
-    "sub",
-    "summary",
-    "sup",
-    "u",
-    "ul",
-    "var",
-    "wbr",
-    "template",
-];
+use html_names::{begins_element, element};
 
 /// What may follow `<!`.
 pub(crate) static COMMENT_WORDS: [&str; 5] = ["--$-->", "--$?-->", "--$!-->", "--/$-->", "-- -->"];
@@ -117,18 +61,22 @@ pub(crate) fn begins_comment(bytes: &[u8]) -> bool
     begins_word(&COMMENT_WORDS, bytes)
 }
 
-#[tactic(auto, unfolding(crate::specs::Machine::tag_words))]
 pub(crate) fn begins_start(bytes: &[u8]) -> bool
     ensures { result ≡ begins_word start_words bytes.now }
 {
-    begins_word(&START_WORDS, bytes)
+    b"script".as_slice().starts_with(bytes) || begins_tag_name(bytes)
 }
 
-#[tactic(auto, unfolding(crate::specs::Machine::tag_words))]
 pub(crate) fn begins_tag_name(bytes: &[u8]) -> bool
     ensures { result ≡ begins_word tag_words bytes.now }
 {
-    begins_word(&START_WORDS[1..], bytes)
+    begins_element(bytes) || begins_template(bytes)
+}
+
+fn begins_template(bytes: &[u8]) -> bool
+    ensures { result ≡ starts_with nat_eq (codes "template") bytes.now }
+{
+    b"template".as_slice().starts_with(bytes)
 }
 
 /// Of a tag's name, whether its element is void, or `None` where no tag has that name.

@@ -1,5 +1,6 @@
-use Rattle.std.proofs.Common.{length, arith}
-use Rattle.dom_forest.proofs.Documents.{set_document, set_forest}
+use Rattle.std.proofs.Common.{length, refl, arith}
+use Rattle.dom_forest.proofs.Documents.{set_document, set_forest, with_node}
+use Rattle.dom_forest.proofs.Spines.{spine-set}
 use Rattle.dom_forest.proofs.Located.{times-absent}
 use Rattle.dom_forest.proofs.edits.set_content.Goals as goal
 
@@ -17,3 +18,7 @@ pub returns-in_default-clause-forest : goal.returns-in_default-clause-forest
 returns-in_default-clause-forest c =
     let none = rw c.deref.ensures.value at c.in_default.ensures.absent in
     absurd (omega (arith, c.requires.there, times-absent c.args.id c.args.entries.now.items (length c.args.places.now) c.requires.document none))
+
+pub returns-in-Some-clause-spine : goal.returns-in-Some-clause-spine
+returns-in-Some-clause-spine c = λ spine s.
+    spine-set c.args.entries.now.items c.in-Some.at c.index_mut.result.now (with_node c.args.node c.index_mut.result.now) c.index_mut.ensures.value refl spine s

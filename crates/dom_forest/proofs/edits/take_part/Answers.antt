@@ -1,5 +1,6 @@
 use Rattle.std.proofs.Common.{length, arith}
 use Rattle.dom_forest.proofs.Parts.{spanned, rest_document, rest_forest, part_document, part_forest, one_size, part_shifts}
+use Rattle.dom_forest.proofs.Spines.{spine-shorter, spine-without}
 use Rattle.dom_forest.proofs.edits.take_part.Goals as goal
 
 pub relabel-requires-clause-depths : goal.relabel-requires-clause-depths
@@ -49,3 +50,10 @@ returns-clause-size c =
     let next = length c.args.places.now.items in
     let x = spanned old s.at s.end s.depth c.args.id next c.requires.document c.requires.span in
     one_size old s.at s.end s.depth c.args.id next c.requires.document x
+
+pub returns-clause-spine : goal.returns-clause-spine
+returns-clause-spine c =
+    let old = c.args.entries.now.items in
+    let s = c.args.span in
+    rw c.in_ok-part.ensures.rest (spine-without old s.at s.end c.shorten.new.spine.items c.requires.order (omega (arith, c.requires.within, c.args.entries.now.ok.0))
+    (spine-shorter old s.at c.args.spine.now.items c.shorten.new.spine.items c.shorten.ensures c.requires.spine))

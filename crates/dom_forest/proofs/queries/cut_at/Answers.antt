@@ -1,5 +1,5 @@
 use Rattle.std.proofs.Common.{length, sym, ◌∙◌, arith}
-use Rattle.dom_forest.proofs.Located.{times-absent, place-within, place-cut}
+use Rattle.dom_forest.proofs.Located.{times-absent, place-within, place-cut, place-deep}
 use Rattle.dom_forest.proofs.queries.cut_at.Goals as goal
 
 pub returns-in_err-at-clause-absent : goal.returns-in_err-at-clause-absent
@@ -16,3 +16,11 @@ returns-in_err-entry-clause-absent c =
 pub returns-clause-node : goal.returns-clause-node
 returns-clause-node c =
     place-cut c.args.entries.now c.in_ok-at.at c.args.id c.in_ok-entry.entry.now c.in_ok-entry.after.now c.in_ok-at.ensures.found (sym c.split_at.ensures.back ∙ c.in_ok-entry.ensures.cases.0)
+
+pub returns-clause-deep : goal.returns-clause-deep
+returns-clause-deep c =
+    omega (
+      arith,
+      place-deep c.args.entries.now c.in_ok-at.at c.args.id (length c.args.places.now) c.in_ok-entry.entry.now c.in_ok-entry.after.now c.requires c.in_ok-at.ensures.found (sym c.split_at.ensures.back ∙ c.in_ok-entry.ensures.cases.0),
+      c.split_at.ensures.front_len,
+    )

@@ -1,14 +1,8 @@
-use Rattle.std.proofs.Common.{◌∷◌, length, ap, arith, length-append}
+use Rattle.std.proofs.Common.{length}
 use Rattle.dom_forest.specs.Flat.{forest_of}
 use Rattle.dom_forest.proofs.There.{there_from_found}
 use Rattle.dom_forest.proofs.Located.{known}
 use Rattle.dom_forest.proofs.queries.span_of.Goals as goal
-
-pub returns-in-Some-clause-deep : goal.returns-in-Some-clause-deep
-returns-in-Some-clause-deep c =
-    let cut = c.in-Some.cut in
-    let x = known c.args.entries.now cut.before.now cut.after.now cut.entry.now c.args.id (length c.args.places.now) c.requires c.in-Some.ensures.whole c.in-Some.ensures.node in
-    omega (arith, x.deep, ap length c.in-Some.ensures.whole, length-append cut.before.now (cut.entry.now ∷ cut.after.now), c.deeper.ensures.bound)
 
 pub returns-in-Some-clause-there : goal.returns-in-Some-clause-there
 returns-in-Some-clause-there c =

@@ -1,7 +1,8 @@
 use Rattle.std.proofs.Common.{◌≡◌, ◌-◌, ◌≤◌, ℕ, List, ◌++◌, length}
 use Rattle.fizz_text.specs.declared.attribute.Attr.{Attr}
 use Rattle.html_read.specs.Building.{EndsTag}
-use Rattle.html_read.specs.Tokens.{AreAttributes, written_attributes}
+use Rattle.html_names.specs.Printing.{written_attributes}
+use Rattle.html_read.specs.Tokens.{AreAttributes}
 use Rattle.html_read.proofs.Built.{Left}
 use Rattle.html_read.proofs.building.attributes_at.Given as goal
 

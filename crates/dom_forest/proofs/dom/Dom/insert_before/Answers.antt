@@ -14,7 +14,7 @@ returns-in-Ok-clause-ok c =
     let id = c.args.place.0 in
     let next = length c.self.inside.places.items in
     let part = forest_of c.part.inside.entries.items in
-    let size : count part ≡ c.part.inside.entries.len = omega (arith, ap length c.part.invariant.whole, length-flat 0 part [], c.part.inside.entries.ok.0) in
+    let size : count part ≡ c.part.inside.entries.len = omega (arith, ap length c.part.invariant.document.whole, length-flat 0 part [], c.part.inside.entries.ok.0) in
     let longer : length c.make_room.new.places.items ≡ next + c.part.inside.entries.len =
     omega (arith, ap length c.in-Ok.ensures.places, length-append c.self.inside.places.items (replicate {A = ℕ} c.len.result 0), length-replicate {A = ℕ} c.len.result 0, c.len.ensures) in
     let first_is : length c.make_room.new.places.items - c.part.inside.entries.len ≡ next = omega arith in

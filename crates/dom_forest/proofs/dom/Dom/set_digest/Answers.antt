@@ -14,7 +14,7 @@ returns-in_ok-content-clause-ok c =
     let id = c.args.node.0 in
     let forest = forest_of c.self.inside.entries.items in
     let there = there_from_element id forest (subst (λ (d : Numbered). IsElement (content_of id d.forest)) (sym c.self.view_is) c.requires) in
-    let once : times id forest ≡ 1 = omega (arith, there, c.self.invariant.numbered.once id) in
+    let once : times id forest ≡ 1 = omega (arith, there, c.self.invariant.document.numbered.once id) in
     let here = rw c.deref.ensures.value at (sym c.in-Some.ensures) in
     let same : forest_of c.set_content.new.entries.items ≡ changed id (λ content kids later. tree id (digest_set c.args.digest content) kids later) forest =
     c.set_content.ensures.forest ∙ changed-same id forest _ _ _ once here (λ kids later. ap (λ n. tree id n kids later) c.in_ok-content.ensures) in
