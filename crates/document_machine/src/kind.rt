@@ -1,0 +1,12 @@
+//! The kinds of boundaries.
+
+/// What a boundary shows.
+#[derive(Clone, Copy, Debug, PartialEq, Eq, Drop)]
+pub enum Kind {
+    /// `$`: its content.
+    Complete,
+    /// `$?`: its fallback, until the content comes.
+    Pending,
+    /// `$!`: its fallback, since the content failed.
+    Client,
+}

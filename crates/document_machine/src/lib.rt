@@ -1,0 +1,25 @@
+//! The machine that says which document the bytes of a page leave: it reads tokens, builds a document of them, and
+//! follows the page's instructions.
+#![tactic(auto)]
+
+mod building;
+mod edits;
+mod fault;
+mod kind;
+mod laws;
+mod left_out;
+mod machine;
+mod settling;
+mod stop;
+#[cfg(test)]
+mod tests;
+mod view;
+mod view_laws;
+mod viewing;
+
+pub use fault::MachineFault;
+pub use kind::Kind;
+pub use laws::{laws_of_documents, laws_of_printing};
+pub use machine::Machine;
+pub use view::{Counts, Item, SettledRefused, View};
+pub use view_laws::laws_of_views;
