@@ -1,15 +1,15 @@
 -- A file means one page.
-use Rattle.std.proofs.Common.{◌≡◌, ◌≢◌, ℕ, ◌==◌, Bool, true, false, List, [], ◌∷◌, ◌++◌, Option, Some, None, refl, sym, ◌∙◌, ap, subst, codes, append_assoc, append-nil}
+use Rattle.std.proofs.Common.{◌≡◌, ◌≢◌, ℕ, ◌==◌, Bool, true, false, List, [], ◌∷◌, ◌++◌, Some, refl, sym, ◌∙◌, ap, subst, codes, append_assoc, append-nil}
 use Rattle.std.proofs.lemmas.List.{append_cancel_left}
 use Rattle.std.proofs.lemmas.Bool.Decides.{Decides-eqb}
 use Rattle.html_names.specs.Elements.{void_flag}
-use Rattle.fizz_cli.specs.Page.{Page}
-use Rattle.fizz_cli.specs.Source.{Source, end, text, closed, element, Written, attributes_bytes, written_bytes, AreAttributes, IsWritten, IsBody, IsPageFile, page_of, is_text_byte, is_value_byte}
-use Rattle.fizz_cli.specs.Lexemes.{Lexeme, words, whole, start, finish, lexeme_bytes, lexemes_bytes, IsLexeme, is_words, IsRun, is_name_byte, is_attribute_byte, BeginsWith, IsNext, may_follow, opened, GoesOn, Follows, flat}
+use Rattle.dom_forest.specs.declared.document.DocNode.{DocNode}
+use Rattle.fizz_cli.specs.Source.{Source, end, text, closed, element, Written, attributes_bytes, AreAttributes, IsWritten, IsPageFile, page_of}
+use Rattle.fizz_cli.specs.Lexemes.{Lexeme, words, whole, start, finish, lexemes_bytes, is_words, BeginsWith, IsNext, opened, GoesOn, Follows, flat}
 use Rattle.fizz_cli.specs.LexemeViews.{AreAttributesAt, EndsAttributes, IsAttributeAt}
 use Rattle.fizz_cli.proofs.LongestRuns.{opposite, cons_rest, is_name, element_is_name, name_passes, plain_passes}
-use Rattle.fizz_cli.proofs.Attributes.{some_pair, same_pair, Going, going_begins, going_on, stops, attribute_found}
-use Rattle.fizz_cli.proofs.Tags.{some_flag, element_passes, some_known, no_text_here, no_slash_name, no_space_62, no_space_47, attributes_end_name, text_run, text_found, end_found, whole_found, start_found, next_end, next_tag, next_words}
+use Rattle.fizz_cli.proofs.Attributes.{same_pair, Going, going_begins, going_on, stops, attribute_found}
+use Rattle.fizz_cli.proofs.Tags.{some_flag, element_passes, no_text_here, no_slash_name, no_space_62, no_space_47, attributes_end_name, text_run, text_found, end_found, whole_found, start_found, next_end, next_tag, next_words}
 use Rattle.fizz_cli.proofs.LexemeLists.{longest_text}
 use Rattle.fizz_cli.proofs.Trees.{body_follows}
 
@@ -148,7 +148,7 @@ same_source (element k ws kids s) (element l vs below r) m n e p q =
     (same_element k l ws vs kids below s r (first_of _ _ _ _ e) inner.0 rest.0, rest.1)
 
 -- a file means one page
-pub one_page : (file : List ℕ) (p q : Page) → IsPageFile file p → IsPageFile file q → p ≡ q
+pub one_page : (file : List ℕ) (p q : List DocNode) → IsPageFile file p → IsPageFile file q → p ≡ q
 one_page file p q a b =
     let bodies : a.body ≡ b.body = append_cancel_left (codes "function App() { return ") a.body b.body (a.split ∙ sym b.split) in
     let rows = body_follows a.body a.source a.is_body in

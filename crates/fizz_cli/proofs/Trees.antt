@@ -1,17 +1,11 @@
 -- A source is its row of lexemes, and each row that goes on up to the end of the outermost element is a source's.
-use Rattle.std.proofs.Common.{◌≡◌, ℕ, zero, suc, ◌+◌, Bool, true, false, not, nat_lt, List, [], ◌∷◌, ◌++◌, length, map, Option, Some, None, is_some, unwrap_or, refl, sym, ◌∙◌, ap, arith, codes, append_assoc, append-nil}
+use Rattle.std.proofs.Common.{◌≡◌, ℕ, zero, suc, ◌+◌, Bool, true, false, not, nat_lt, List, [], ◌∷◌, ◌++◌, length, Some, refl, sym, ◌∙◌, ap, arith, codes}
 use Rattle.std.specs.Cmp.Derive.{both_true}
 use Rattle.std.proofs.lemmas.Slice.Eq.{bytes_eq-Decides}
 use Rattle.std.proofs.lemmas.Bool.Decides.{nat_tests}
-use Rattle.html_names.specs.Attributes.{Meaning, attribute_of}
-use Rattle.html_names.specs.Elements.{void_flag, IsElementName}
-use Rattle.html_names.specs.Names.{is_plain_name}
-use Rattle.html_names.proofs.PlainNames.{attribute_is_plain}
-use Rattle.html_names.specs.Escape.{escaped}
-use Rattle.fizz_cli.specs.Page as page
-use Rattle.fizz_cli.specs.Page.{html, element_html, attributes_html, is_void, AreNamed, IsRead}
-use Rattle.fizz_cli.specs.Source.{Source, end, text, closed, element, Written, AreAttributes, IsPlain, source_bytes, name_of, attr_of, page_of, MayStand, StartsWithText, IsOneElement, IsBody, most_open}
-use Rattle.fizz_cli.specs.Lexemes.{Lexeme, words, whole, start, finish, lexeme_bytes, lexemes_bytes, lexeme_html, lexemes_html, IsLexeme, may_follow, Follows, flat}
+use Rattle.html_names.specs.Elements.{void_flag}
+use Rattle.fizz_cli.specs.Source.{Source, end, text, closed, element, source_bytes, MayStand, StartsWithText, IsOneElement, IsBody, most_open}
+use Rattle.fizz_cli.specs.Lexemes.{Lexeme, words, whole, start, finish, lexeme_bytes, lexemes_bytes, lexemes_html, IsLexeme, may_follow, Follows, flat}
 use Rattle.fizz_cli.proofs.LongestRuns.{both, opposite, element_is_name, name_passes}
 
 -- the bytes of a source are those of its lexemes
@@ -23,62 +17,6 @@ flat_bytes (element name ws kids later) more tail =
     ap (lexeme_bytes (start name ws))
     (flat_bytes kids (finish name ∷ flat later more) tail
     ∙ ap (λ bs. source_bytes kids (codes "</" ++ (name ++ (codes ">" ++ bs)))) (flat_bytes later more tail))
-
-regroup : (x g i c a h after : List ℕ) → (x ++ g) ++ (i ++ ((c ++ a ++ h) ++ after)) ≡ (x ++ (g ++ i ++ c ++ a ++ h)) ++ after
-regroup x g i c a h after = simp append_assoc
-
-open_html : (name : List ℕ) (ws : List Written) (inner after : List ℕ) → void_flag name ≡ Some false →
-    (codes "<" ++ name ++ attributes_html (map attr_of ws) ++ codes ">") ++ (inner ++ ((codes "</" ++ name ++ codes ">") ++ after))
-    ≡ element_html name (map attr_of ws) inner ++ after
-open_html name ws inner after known =
-    rw known (regroup (codes "<" ++ name ++ attributes_html (map attr_of ws)) (codes ">") inner (codes "</") name (codes ">") after)
-
--- the HTML of a source's page is that of its lexemes
-pub flat_html : (room : ℕ) (s : Source) (more : List Lexeme) → MayStand room s → lexemes_html (flat s more) ≡ html (page_of s) ++ lexemes_html more
-flat_html room end more m = refl
-flat_html room (text t later) more m = ap (λ bs. escaped t ++ bs) (flat_html room later more m.3) ∙ sym (append_assoc (escaped t) (html (page_of later)) (lexemes_html more))
-flat_html zero (closed name ws later) more m = absurd m
-flat_html (suc room) (closed name ws later) more m =
-    ap (λ bs. element_html name (map attr_of ws) [] ++ bs) (flat_html (suc room) later more m.2)
-    ∙ sym (append_assoc (element_html name (map attr_of ws) []) (html (page_of later)) (lexemes_html more))
-flat_html zero (element name ws kids later) more m = absurd m
-flat_html (suc room) (element name ws kids later) more m =
-    ap (λ bs. lexeme_html (start name ws) ++ bs)
-    (flat_html room kids (finish name ∷ flat later more) m.2
-    ∙ ap (λ bs. html (page_of kids) ++ (lexeme_html (finish name) ++ bs)) (flat_html (suc room) later more m.3))
-    ∙ open_html name ws (html (page_of kids)) (html (page_of later) ++ lexemes_html more) m.0
-    ∙ sym (append_assoc (element_html name (map attr_of ws) (html (page_of kids))) (html (page_of later)) (lexemes_html more))
-
-starts_text : (s : Source) → page.StartsWithText (page_of s) → StartsWithText s
-starts_text end h = h
-starts_text (text t later) h = h
-starts_text (closed name ws later) h = h
-starts_text (element name ws kids later) h = h
-
-some_known : (name : List ℕ) (flag : Bool) → void_flag name ≡ Some flag → IsElementName name
-some_known name flag is = ap is_some is
-
-not_void : (name : List ℕ) → void_flag name ≡ Some false → is_void name ≡ true → ⊥
-not_void name known void = opposite (is_void name) void (ap (λ o. unwrap_or o false) known)
-
-plain_name : (name : List ℕ) (o : Option Meaning) → attribute_of name ≡ o → IsPlain o → is_plain_name (name_of name o) ≡ true
-plain_name name None is plain = absurd plain
-plain_name name (Some m) is plain = attribute_is_plain name m is
-
--- the attributes of a source have the names of attributes in HTML
-are_named : (earlier ws : List Written) → AreAttributes earlier ws → AreNamed (map attr_of ws)
-are_named earlier [] are = tt
-are_named earlier (w ∷ ws) are = (plain_name w.name (attribute_of w.name) refl are.0.plain, are_named (earlier ++ w ∷ []) ws are.2)
-
--- the page of a source is what a reader of HTML makes
-pub page_is_read : (room : ℕ) (s : Source) → MayStand room s → IsRead (page_of s)
-page_is_read room end m = tt
-page_is_read room (text t later) m = (m.0, λ h. m.2 (starts_text later h), page_is_read room later m.3)
-page_is_read zero (closed name ws later) m = absurd m
-page_is_read (suc room) (closed name ws later) m = (m.0, are_named [] ws m.1, λ void. tt, tt, page_is_read (suc room) later m.2)
-page_is_read zero (element name ws kids later) m = absurd m
-page_is_read (suc room) (element name ws kids later) m =
-    (some_known name false m.0, are_named [] ws m.1, λ void. absurd (not_void name m.0 void), page_is_read room kids m.2, page_is_read (suc room) later m.3)
 
 positive : (k : ℕ) → nat_lt 0 (suc k) ≡ true
 positive k = grind (arith, nat_tests)
@@ -203,12 +141,12 @@ source_of_row (start name ws ∷ xs) (suc room) e f =
     (element name ws r.0 end, (f.0.0, f.0.1, r.3, tt), tt, ap (λ ys. start name ws ∷ ys) (r.2 ∙ ap (λ ys. flat r.0 (finish name ∷ ys)) r.5))
 source_of_row (finish name ∷ xs) most e f = absurd (opposite false f.1 refl)
 
--- the body of a row of lexemes, and the HTML of its page
+-- the body of a row of lexemes
 pub body_of_row : (body : List ℕ) (zs : List Lexeme) → Follows [] false zs → body ≡ lexemes_bytes zs (codes "; }\n") →
-    (s : Source) × IsBody body s × (lexemes_html zs ≡ html (page_of s))
+    (s : Source) × IsBody body s × (lexemes_html zs ≡ lexemes_html (flat s []))
 body_of_row body zs f spelled =
     let r = source_of_row zs most_open refl f in (
       r.0,
       record { spelled = sym (spelled ∙ ap (λ ys. lexemes_bytes ys (codes "; }\n")) r.3 ∙ flat_bytes r.0 [] (codes "; }\n")); allowed = r.1; one = r.2 },
-      ap lexemes_html r.3 ∙ flat_html most_open r.0 [] r.1 ∙ append-nil (html (page_of r.0)),
+      ap lexemes_html r.3,
     )

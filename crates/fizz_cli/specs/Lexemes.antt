@@ -4,7 +4,8 @@ use Rattle.std.specs.List.{flat_map, list_all}
 use Rattle.std.specs.Str.{bytes_eq}
 use Rattle.html_names.specs.Elements.{void_flag, IsElementName}
 use Rattle.html_names.specs.Escape.{escaped}
-use Rattle.fizz_cli.specs.Page.{attributes_html, element_html}
+use Rattle.html_names.specs.Printing.{end_tag, tag_front}
+use Rattle.document_machine.specs.Printing.{element_bytes}
 use Rattle.fizz_cli.specs.Source.{Source, end, text, closed, element, Written, AreAttributes, attributes_bytes, attr_of, is_text_byte, most_open}
 
 -- a text, an element that is closed in its own tag, a start tag or an end tag
@@ -100,9 +101,9 @@ Follows names after_text (x ∷ xs) =
 -- a lexeme in HTML
 abbrev pub lexeme_html : Lexeme → List ℕ
 lexeme_html (words t) = escaped t
-lexeme_html (whole name ws) = element_html name (map attr_of ws) []
-lexeme_html (start name ws) = codes "<" ++ name ++ attributes_html (map attr_of ws) ++ codes ">"
-lexeme_html (finish name) = codes "</" ++ name ++ codes ">"
+lexeme_html (whole name ws) = element_bytes name (map attr_of ws) []
+lexeme_html (start name ws) = tag_front name (map attr_of ws) ++ codes ">"
+lexeme_html (finish name) = end_tag name
 
 abbrev pub lexemes_html : List Lexeme → List ℕ
 lexemes_html = flat_map lexeme_html

@@ -1,11 +1,13 @@
 pub mod Commands
+pub mod Documents
 pub mod Endings
 pub mod LexemeViews
 pub mod Lexemes
 pub mod Notes
-pub mod Page
 pub mod Refusals
 pub mod Runs
+pub mod Showing
 pub mod Source
 pub mod Statuses
+pub mod Stops
 pub mod Words

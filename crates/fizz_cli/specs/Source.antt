@@ -7,7 +7,8 @@ use Rattle.fizz_text.specs.declared.attribute.Attr.{Attr}
 use Rattle.html_names.specs.Elements.{void_flag, IsElementName}
 use Rattle.html_names.specs.Attributes.{Meaning, attribute_of, printed_name}
 use Rattle.html_names.specs.declared.attributes.AttrKind.TheVariants.{Plain}
-use Rattle.fizz_cli.specs.Page as page
+use Rattle.dom_forest.specs.declared.document.DocNode.{DocNode}
+use Rattle.dom_forest.specs.declared.document.DocNode.TheVariants as doc
 
 -- an attribute as it is written
 pub record Written : Type 0 where
@@ -103,12 +104,12 @@ name_of name (Some meaning) = printed_name name meaning
 abbrev pub attr_of : Written → Attr
 attr_of w = record { name = name_of w.name (attribute_of w.name); value = Some w.value }
 
--- the page that a source means
-abbrev pub page_of : Source → page.Page
-page_of end = page.end
-page_of (text t later) = page.text t (page_of later)
-page_of (closed name ws later) = page.element name (map attr_of ws) page.end (page_of later)
-page_of (element name ws kids later) = page.element name (map attr_of ws) (page_of kids) (page_of later)
+-- the document that a source means
+abbrev pub page_of : Source → List DocNode
+page_of end = []
+page_of (text t later) = doc.Text t ∷ page_of later
+page_of (closed name ws later) = doc.Element name (map attr_of ws) [] ∷ page_of later
+page_of (element name ws kids later) = doc.Element name (map attr_of ws) (page_of kids) ∷ page_of later
 
 -- the most elements that may be open at a place
 unfoldable pub most_open : ℕ
@@ -120,8 +121,8 @@ pub record IsBody (bytes : List ℕ) (source : Source) : Type 0 where
   pub allowed : MayStand most_open source
   pub one : IsOneElement source
 
--- The file is of the first form, and means this page: `function App() { return `, and then such a body.
-pub record IsPageFile (file : List ℕ) (means : page.Page) : Type 0 where
+-- The file is of the first form, and means this document: `function App() { return `, and then such a body.
+pub record IsPageFile (file : List ℕ) (means : List DocNode) : Type 0 where
   pub source : Source
   pub body : List ℕ
   pub split : codes "function App() { return " ++ body ≡ file

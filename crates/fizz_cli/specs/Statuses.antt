@@ -1,34 +1,25 @@
 -- The statuses of a call and their causes. What a call reads and writes is told by the objects that it is given.
-use Rattle.std.specs.Prelude.{◌≡◌, ℕ, ◌⊎◌, List, Option, Some, None, Result, Ok, Err}
+use Rattle.std.specs.Prelude.{◌≡◌, ℕ, ◌⊎◌, List, Option, Some, None}
 use Rattle.std.specs.Io.KnownBytes.{Appends, Keeps}
 use Rattle.fizz_outside.specs.FileContents.{Contents}
-use Rattle.fizz_cli.specs.Page.{Page, IsDocument}
-use Rattle.fizz_cli.specs.Refusals.{Means, Refuses}
+use Rattle.fizz_cli.specs.Refusals.{IsAccepted, IsOutput, Refuses}
 use Rattle.fizz_cli.specs.Notes.{note_of, usage_note}
 use Rattle.fizz_cli.specs.Commands.{command_of}
 use Rattle.fizz_cli.specs.Endings.{Began}
 use Rattle.fizz_cli.specs.declared.command.Command.{Command}
 use Rattle.fizz_cli.specs.declared.refusal.Input.{Input}
 use Rattle.fizz_cli.specs.declared.refusal.Refusal.{Refusal}
-use Rattle.fizz_cli.specs.declared.refusal.Refusal.TheVariants.{CannotRead, TooLong, NotUtf8, Unbuilt}
-use Rattle.fizz_cli.specs.declared.inputs.Stop.{Stop}
-use Rattle.fizz_cli.specs.declared.inputs.Stop.TheVariants.{Refused, OutOfMemory}
+use Rattle.fizz_cli.specs.declared.refusal.Refusal.TheVariants.{CannotRead}
 
 -- 3 for a file that can't be read, 4 for one that is refused
 abbrev pub status_of : Refusal → ℕ
 status_of (CannotRead input) = 3
-status_of (TooLong input) = 4
-status_of (NotUtf8 valid) = 4
-status_of (Unbuilt input) = 4
+status_of _ = 4
 
--- The bytes are a whole document, and it is the one that the files mean.
-abbrev pub IsSettled : Contents → Command → List ℕ → Type 0
-IsSettled at command bytes = (page : Page) × Means at command page × IsDocument bytes page
-
--- Such bytes were appended to the output, where the files are told.
-abbrev pub RendersSettled : Option Contents → Command → Option (List ℕ) → Option (List ℕ) → Type 0
-RendersSettled told command old new =
-    (at : Contents) → told ≡ Some at → (bytes : List ℕ) × IsSettled at command bytes × Appends old new bytes
+-- What the command writes where its files are accepted was appended to the output, where the files are told.
+abbrev pub WritesOutput : Option Contents → Command → Option (List ℕ) → Option (List ℕ) → Type 0
+WritesOutput told command old new =
+    (at : Contents) → told ≡ Some at → (bytes : List ℕ) × IsOutput at command bytes × Appends old new bytes
 
 -- A file can't be read: a fault was counted, or the files tell that there is none of its name.
 abbrev pub IsUnread : Option Contents → Command → Type 0 → Input → Type 0
@@ -41,16 +32,14 @@ IsRefused told command refusal = (at : Contents) → told ≡ Some at → Refuse
 -- Why a refusal is answered.
 abbrev pub IsCause : Option Contents → Command → Type 0 → Refusal → Type 0
 IsCause told command rose (CannotRead input) = IsUnread told command rose input
-IsCause told command rose (TooLong input) = IsRefused told command (TooLong input)
-IsCause told command rose (NotUtf8 valid) = IsRefused told command (NotUtf8 valid)
-IsCause told command rose (Unbuilt input) = IsRefused told command (Unbuilt input)
+IsCause told command rose refusal = IsRefused told command refusal
 
--- A call that was cut off has written nothing, or a front of the page, or a front of one note.
+-- A call that was cut off has written nothing, or a front of the output, or a front of one note.
 abbrev pub IsCut : Option Contents → Command → Type 0 → Option (List ℕ) → Option (List ℕ) → Option (List ℕ) → Option (List ℕ) → Type 0
 IsCut told command rose out_old out_new notes_old notes_new =
     (Keeps out_old out_new × Keeps notes_old notes_new)
     ⊎ (((bytes : List ℕ) × Began out_old out_new bytes × Keeps notes_old notes_new
-    × ((at : Contents) → told ≡ Some at → IsSettled at command bytes))
+    × ((at : Contents) → told ≡ Some at → IsOutput at command bytes))
     ⊎ ((refusal : Refusal) × Keeps out_old out_new × Began notes_old notes_new (note_of command refusal)
     × IsCause told command rose refusal))
 
@@ -59,23 +48,10 @@ abbrev pub Tells : Option Contents → Command → Type 0 → Option (List ℕ) 
 Tells told command rose out_old out_new notes_old notes_new refusal =
     Appends notes_old notes_new (note_of command refusal) × Keeps out_old out_new × IsCause told command rose refusal
 
--- The status is the one that the files call for: 0 where they mean a page, and else that of their refusal.
+-- The status is the one that the files call for: 0 where they are accepted, and else that of their refusal.
 pub record IsCalledFor (at : Contents) (command : Command) (status : ℕ) : Type 0 where
-  pub done : (page : Page) → Means at command page → status ≡ 0
+  pub done : IsAccepted at command → status ≡ 0
   pub refused : (refusal : Refusal) → Refuses at command refusal → status ≡ status_of refusal
-
--- A file can't be read also where a fault was counted.
-abbrev pub Excused : Type 0 → (Refusal → Type 0) → Refusal → Type 0
-Excused rose refuses (CannotRead input) = rose ⊎ refuses (CannotRead input)
-Excused rose refuses (TooLong input) = refuses (TooLong input)
-Excused rose refuses (NotUtf8 valid) = refuses (NotUtf8 valid)
-Excused rose refuses (Unbuilt input) = refuses (Unbuilt input)
-
--- What a step gives: a value that is accepted, a refusal, or want of memory.
-abbrev pub Gives : {A : Type 0} → (A → Type 0) → (Refusal → Type 0) → Result A Stop → Type 0
-Gives accepts refuses (Ok v) = accepts v
-Gives accepts refuses (Err (Refused refusal)) = refuses refusal
-Gives accepts refuses (Err OutOfMemory) = Unit {0}
 
 -- A call of words that was cut off: nothing was written, or the front of the usage note, or the words mean a command
 -- and a call of that was cut off.

@@ -1,6 +1,7 @@
 ghost use Rattle.std.specs.Prelude.{◌≡◌};
-ghost use Rattle.fizz_cli.specs.Commands.{app_name, script_name, standard_options};
+ghost use Rattle.fizz_cli.specs.Commands.{input_name, standard_options};
 
+use crate::refusal::Input;
 use fizz_text::Text;
 
 /// What one call of fizz is to do.
@@ -13,6 +14,12 @@ pub enum Command {
         script: Text,
         options: Options,
         workers: u32,
+    },
+    /// Shows the settled document of a page file, whose instructions name ids that begin with the prefix. It has at
+    /// most 64 bytes.
+    Show {
+        file: Text,
+        prefix: Text,
     },
 }
 
@@ -41,21 +48,17 @@ impl Options {
 }
 
 impl Command {
-    /// The name of the component file.
-    pub fn app(&self) -> &Text
-        ensures { result.now ≡ app_name self.now }
+    /// The name of one of its files. `show` has its page file alone, and `render` has none of that kind: there the name
+    /// of the component file stands.
+    pub fn name(&self, input: Input) -> &Text
+        ensures { result.now ≡ input_name self.now input }
     {
         match self {
-            Command::Render { app, .. } => app,
-        }
-    }
-
-    /// The name of the settling script.
-    pub fn script(&self) -> &Text
-        ensures { result.now ≡ script_name self.now }
-    {
-        match self {
-            Command::Render { script, .. } => script,
+            Command::Render { app, script, .. } => match input {
+                Input::App | Input::Page => app,
+                Input::Script => script,
+            },
+            Command::Show { file, .. } => file,
         }
     }
 }

@@ -4,22 +4,26 @@ ghost use Rattle.std.specs.Prelude.{◌≡◌, ◌≤◌, ◌⊎◌, ℕ, List, 
 ghost use Rattle.std.specs.Str.{IsUtf8};
 ghost use Rattle.fizz_outside.specs.FileContents.{Contents};
 ghost use Rattle.fizz_outside.specs.Faults.{Rose};
-ghost use Rattle.fizz_cli.specs.Page.{Page, IsDocument};
+ghost use Rattle.dom_forest.specs.declared.document.DocNode.{DocNode as Node};
+ghost use Rattle.fizz_cli.specs.Documents.{IsDocument};
 ghost use Rattle.fizz_cli.specs.Source.{IsPageFile};
-ghost use Rattle.fizz_cli.specs.Commands.{app_name, script_name};
-ghost use Rattle.fizz_cli.specs.Refusals.{most_bytes, IsFile, IsRefusedBytes, IsRefusedFile, IsAppFile, IsScriptFile, IsEmptyScript, Refuses};
-ghost use Rattle.fizz_cli.specs.Statuses.{Gives, Excused, IsSettled, IsUnread};
+ghost use Rattle.fizz_cli.specs.Refusals.{IsAccepted, IsAppFile, IsEmptyScript, IsFile, IsOutput, IsRefusedApp, IsRefusedFile, IsRefusedScript, IsScriptFile, IsUnreadFile, Means, Refuses, RefusesPair, most_bytes};
+ghost use Rattle.fizz_cli.specs.Showing.{IsRefusedPage, ShowsDocument};
+ghost use Rattle.fizz_cli.specs.Stops.{Excused, Gives};
 ghost use Rattle.fizz_cli.specs.declared.refusal.Input.{Input};
+ghost use Rattle.fizz_cli.specs.declared.refusal.Refusal.{Refusal};
 ghost use Rattle.fizz_cli.specs.declared.inputs.Stop.TheVariants.{OutOfMemory as Memory};
 
 use crate::command::Command;
+use crate::laws::laws_of_refusals;
 use crate::page::page_html;
 use crate::refusal::{Input, Refusal};
+use crate::showing::show_file;
 use fizz_outside::{FileBytes, Files, FilesRefused};
 use fizz_text::{OutOfMemory, Text};
 use std::alloc::Global;
 
-/// Why the files of a command give no page.
+/// Why the files of a command give no output.
 #[derive(Debug, Drop)]
 pub(crate) enum Stop {
     Refused(Refusal),
@@ -41,11 +45,12 @@ pub(crate) fn most_bytes(input: Input) -> usize
     match input {
         Input::App => 262_144,
         Input::Script => 16_777_216,
+        Input::Page => 268_435_456,
     }
 }
 
-/// The bytes of the page that the files of a command mean.
-pub(crate) fn read_page<F: Files>(
+/// The bytes that a command writes where its files are accepted.
+pub(crate) fn output_of<F: Files>(
     alloc: Global,
     command: &Command,
     files: &mut F,
@@ -53,13 +58,45 @@ pub(crate) fn read_page<F: Files>(
     ensures same { F.files files.new ≡ F.files files.old }
     ensures later { F.faults files.old ≤ F.faults files.new }
     ensures told { (at : Contents) → F.files files.old ≡ Some at →
-        Gives (λ page. IsSettled at command.now page.items)
+        Gives (λ out. IsOutput at command.now out.items)
         (Excused (Rose (F.faults files.old) (F.faults files.new)) (Refuses at command.now)) result }
-    ensures unread { (input : Input) → result ≡ Err (Stop.Refused (Refusal.CannotRead input)) →
-        IsUnread (F.files files.old) command.now (Rose (F.faults files.old) (F.faults files.new)) input }
+    ensures untold { F.files files.old ≡ None → (input : Input) → result ≡ Err (Stop.Refused (Refusal.CannotRead input)) →
+        Rose (F.faults files.old) (F.faults files.new) }
+    ensures apart { (at : Contents) (refusal : Refusal) → IsAccepted at command.now → Refuses at command.now refusal → ⊥ }
 {
-    let page = read_app(alloc, files, command.app())?;
-    read_script(files, command.script())?;
+    match command {
+        Command::Render { app, script, .. } => read_page(alloc, app, script, files),
+        Command::Show { file, prefix } => {
+            not_refused(prefix.as_str());
+            show_file(alloc, file, prefix, files)
+        }
+    }
+}
+
+/// A page that is shown is not refused.
+fn not_refused(prefix: &str)
+    ensures { (bytes out : List ℕ) (refusal : Refusal) → ShowsDocument prefix.now bytes out → IsRefusedPage prefix.now bytes refusal → ⊥ }
+{
+    laws_of_refusals();
+}
+
+/// The bytes of the page that a component file and a script mean.
+fn read_page<F: Files>(
+    alloc: Global,
+    app: &Text,
+    script: &Text,
+    files: &mut F,
+) -> Result<Vec<u8>, Stop>
+    ensures same { F.files files.new ≡ F.files files.old }
+    ensures later { F.faults files.old ≤ F.faults files.new }
+    ensures told { (at : Contents) → F.files files.old ≡ Some at →
+        Gives (λ page. (nodes : List Node) × Means at app.now script.now nodes × ((prefix : List ℕ) → IsDocument prefix page.items nodes))
+        (Excused (Rose (F.faults files.old) (F.faults files.new)) (RefusesPair at app.now script.now)) result }
+    ensures untold { F.files files.old ≡ None → (input : Input) → result ≡ Err (Stop.Refused (Refusal.CannotRead input)) →
+        Rose (F.faults files.old) (F.faults files.new) }
+{
+    let page = read_app(alloc, files, app)?;
+    read_script(files, script)?;
     Ok(page)
 }
 
@@ -67,8 +104,8 @@ fn read_app<F: Files>(alloc: Global, files: &mut F, name: &Text) -> Result<Vec<u
     ensures same { F.files files.new ≡ F.files files.old }
     ensures later { F.faults files.old ≤ F.faults files.new }
     ensures told { (at : Contents) → F.files files.old ≡ Some at →
-        Gives (λ html. (page : Page) × IsAppFile (at name.now) page × IsDocument html.items page)
-        (Excused (Rose (F.faults files.old) (F.faults files.new)) (IsRefusedFile Input.App (at name.now))) result }
+        Gives (λ html. (nodes : List Node) × IsAppFile (at name.now) nodes × ((prefix : List ℕ) → IsDocument prefix html.items nodes))
+        (Excused (Rose (F.faults files.old) (F.faults files.new)) (IsRefusedFile Input.App IsRefusedApp (at name.now))) result }
     ensures untold { F.files files.old ≡ None → (input : Input) → result ≡ Err (Stop.Refused (Refusal.CannotRead input)) →
         Rose (F.faults files.old) (F.faults files.new) }
 {
@@ -81,7 +118,7 @@ fn read_script<F: Files>(files: &mut F, name: &Text) -> Result<(), Stop>
     ensures later { F.faults files.old ≤ F.faults files.new }
     ensures told { (at : Contents) → F.files files.old ≡ Some at →
         Gives (λ _. IsScriptFile (at name.now))
-        (Excused (Rose (F.faults files.old) (F.faults files.new)) (IsRefusedFile Input.Script (at name.now))) result }
+        (Excused (Rose (F.faults files.old) (F.faults files.new)) (IsRefusedFile Input.Script IsRefusedScript (at name.now))) result }
     ensures untold { F.files files.old ≡ None → (input : Input) → result ≡ Err (Stop.Refused (Refusal.CannotRead input)) →
         Rose (F.faults files.old) (F.faults files.new) }
 {
@@ -90,12 +127,16 @@ fn read_script<F: Files>(files: &mut F, name: &Text) -> Result<(), Stop>
 }
 
 /// The bytes of a file, if it is there and no longer than its limit.
-fn read_bytes<F: Files>(files: &mut F, name: &Text, input: Input) -> Result<Vec<u8>, Stop>
+pub(crate) fn read_bytes<F: Files>(
+    files: &mut F,
+    name: &Text,
+    input: Input,
+) -> Result<Vec<u8>, Stop>
     ensures same { F.files files.new ≡ F.files files.old }
     ensures later { F.faults files.old ≤ F.faults files.new }
     ensures told { (at : Contents) → F.files files.old ≡ Some at →
         Gives (λ bytes. IsFile input (at name.now) bytes.items)
-        (Excused (Rose (F.faults files.old) (F.faults files.new)) (IsRefusedFile input (at name.now))) result }
+        (Excused (Rose (F.faults files.old) (F.faults files.new)) (IsUnreadFile input (at name.now))) result }
     ensures untold { F.files files.old ≡ None → (which : Input) → result ≡ Err (Stop.Refused (Refusal.CannotRead which)) →
         Rose (F.faults files.old) (F.faults files.new) }
 {
@@ -110,14 +151,17 @@ fn read_bytes<F: Files>(files: &mut F, name: &Text, input: Input) -> Result<Vec<
 
 /// The page that the bytes of a component file mean.
 fn app_page(alloc: Global, bytes: &[u8]) -> Result<Vec<u8>, Stop>
-    ensures { Gives (λ html. IsUtf8 bytes.now × ((page : Page) × IsPageFile bytes.now page × IsDocument html.items page))
-        (IsRefusedBytes Input.App bytes.now) result }
+    ensures { Gives (λ html. IsUtf8 bytes.now × ((nodes : List Node) × IsPageFile bytes.now nodes × ((prefix : List ℕ) → IsDocument prefix html.items nodes)))
+        (IsRefusedApp bytes.now) result }
 {
-    if let Err(e) = str::from_utf8(bytes) {
-        let valid = e.valid_up_to();
-        return Err(Stop::Refused(Refusal::NotUtf8 { valid }));
-    }
-    match page_html(alloc, bytes)? {
+    let file = match str::from_utf8(bytes) {
+        Ok(file) => file,
+        Err(e) => {
+            let valid = e.valid_up_to();
+            return Err(Stop::Refused(Refusal::NotUtf8 { valid }));
+        }
+    };
+    match page_html(alloc, file)? {
         Some(html) => Ok(html),
         None => Err(Stop::Refused(Refusal::Unbuilt(Input::App))),
     }
@@ -125,7 +169,7 @@ fn app_page(alloc: Global, bytes: &[u8]) -> Result<Vec<u8>, Stop>
 
 /// Whether the bytes are a script of no line.
 fn check_script(bytes: &[u8]) -> Result<(), Stop>
-    ensures { Gives (λ _. IsEmptyScript bytes.now) (IsRefusedBytes Input.Script bytes.now) result }
+    ensures { Gives (λ _. IsEmptyScript bytes.now) (IsRefusedScript bytes.now) result }
 {
     match bytes {
         b"[]" | b"[]\n" => Ok(()),

@@ -4,12 +4,15 @@ mod lexeme;
 mod runs;
 
 ghost use Rattle.std.specs.Prelude.{◌≡◌, ◌↔◌, [], IsTrue, IfOk, OnOk, MatchOption, List, codes, length, nat_lt, ℕ};
-ghost use Rattle.fizz_cli.specs.Page.{Page, IsDocument, html};
-ghost use Rattle.fizz_cli.specs.Source.{Source, IsPageFile, IsBody, most_open, page_of};
-ghost use Rattle.fizz_cli.specs.Lexemes.{is_innermost, is_words, may_follow, opened};
+ghost use Rattle.dom_forest.specs.declared.document.DocNode.{DocNode as Node};
+ghost use Rattle.fizz_cli.specs.Documents.{IsDocument};
+ghost use Rattle.fizz_cli.specs.Source.{Source, IsPageFile, IsBody, most_open};
+ghost use Rattle.fizz_cli.specs.Lexemes.{flat, is_innermost, is_words, lexemes_html, may_follow, opened};
 ghost use Rattle.fizz_cli.specs.LexemeViews.{Puts, lexeme_of, stack_of};
 
+use document_machine::{laws_of_printing, laws_of_views};
 use fizz_text::OutOfMemory;
+use html_names::laws_of_names;
 use lexeme::{Lexeme, next_lexeme, push_lexeme};
 use runs::after_front;
 use std::alloc::Global;
@@ -19,11 +22,14 @@ const MOST_OPEN: usize = 100;
 
 /// The bytes of the page that a component file of the first form means; None exactly where the file is not of that
 /// form. The file is read in one pass, and at most 100 elements are open at a place.
-pub fn page_html(alloc: Global, file: &[u8]) -> Result<Option<Vec<u8>>, OutOfMemory>
-    ensures { IfOk result (λ found. MatchOption found ((page : Page) → IsPageFile file.now page → ⊥)
-        (λ bytes. (page : Page) × IsPageFile file.now page × IsDocument bytes.items page)) }
+pub fn page_html(alloc: Global, file: &str) -> Result<Option<Vec<u8>>, OutOfMemory>
+    ensures { IfOk result (λ found. MatchOption found ((nodes : List Node) → IsPageFile file.now nodes → ⊥)
+        (λ bytes. (nodes : List Node) × IsPageFile file.now nodes × ((prefix : List ℕ) → IsDocument prefix bytes.items nodes))) }
 {
-    match after_front(file, b"function App() { return ") {
+    laws_of_names();
+    laws_of_printing();
+    laws_of_views();
+    match after_front(file.as_bytes(), b"function App() { return ") {
         Some(body) => element_html(alloc, body),
         None => Ok(None),
     }
@@ -32,7 +38,7 @@ pub fn page_html(alloc: Global, file: &[u8]) -> Result<Option<Vec<u8>>, OutOfMem
 /// The bytes of the page that the body of the component means; None where it is no body.
 fn element_html(alloc: Global, body: &[u8]) -> Result<Option<Vec<u8>>, OutOfMemory>
     ensures { IfOk result (λ found. MatchOption found ((source : Source) → IsBody body.now source → ⊥)
-        (λ bytes. (source : Source) × IsBody body.now source × (bytes.items ≡ html (page_of source)))) }
+        (λ bytes. (source : Source) × IsBody body.now source × (bytes.items ≡ lexemes_html (flat source [])))) }
 {
     let mut out = Vec::new(alloc);
     let mut names: Vec<&[u8]> = Vec::new(alloc);
@@ -135,8 +141,3 @@ fn turn<'a>(names: &mut Vec<&'a [u8]>, lexeme: &Lexeme<'a>) -> Result<(), OutOfM
     }
     Ok(())
 }
-
-/// A law of literal pages: a file means one page at most.
-pub fn one_page()
-    ensures { (file : List ℕ) (page other : Page) → IsPageFile file page → IsPageFile file other → page ≡ other }
-{}

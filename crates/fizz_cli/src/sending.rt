@@ -27,8 +27,13 @@ pub(crate) fn send<S: Sink>(status: u8, bytes: &[u8], sink: &mut S) -> u8
 }
 
 /// Tells why a command was refused, and ends with the status of that.
-pub(crate) fn tell<N: Sink>(alloc: Global, command: &Command, refusal: Refusal, notes: &mut N) -> u8
-    ensures sent { Sends (status_of refusal) (note_of command.now refusal) (N.held notes.old) (N.held notes.new)
+pub(crate) fn tell<N: Sink>(
+    alloc: Global,
+    command: &Command,
+    refusal: &Refusal,
+    notes: &mut N,
+) -> u8
+    ensures sent { Sends (status_of refusal.now) (note_of command.now refusal.now) (N.held notes.old) (N.held notes.new)
         (Rose (N.faults notes.old) (N.faults notes.new)) result }
     ensures later { N.faults notes.old ≤ N.faults notes.new }
 {
@@ -38,11 +43,13 @@ pub(crate) fn tell<N: Sink>(alloc: Global, command: &Command, refusal: Refusal, 
     }
 }
 
-fn status_of(refusal: Refusal) -> u8
-    ensures { result ≡ status_of refusal }
+fn status_of(refusal: &Refusal) -> u8
+    ensures { result ≡ status_of refusal.now }
 {
     match refusal {
         Refusal::CannotRead(_) => 3,
         Refusal::TooLong(_) | Refusal::NotUtf8 { .. } | Refusal::Unbuilt(_) => 4,
+        Refusal::Html { .. } | Refusal::UnknownFunction { .. } => 4,
+        Refusal::NoSuchId { .. } | Refusal::NotBoundary { .. } | Refusal::StillPending { .. } => 4,
     }
 }

@@ -3,13 +3,13 @@ ghost use Rattle.std.specs.Io.KnownBytes.{Appends, Keeps};
 ghost use Rattle.fizz_outside.specs.FileContents.{Contents};
 ghost use Rattle.fizz_outside.specs.Faults.{Rose};
 ghost use Rattle.fizz_cli.specs.Commands.{command_of, IsInline};
-ghost use Rattle.fizz_cli.specs.Statuses.{RendersSettled, Tells, IsCut, IsCutCall, IsCalledFor, status_of};
+ghost use Rattle.fizz_cli.specs.Statuses.{WritesOutput, Tells, IsCut, IsCutCall, IsCalledFor, status_of};
 ghost use Rattle.fizz_cli.specs.Notes.{usage_note};
 ghost use Rattle.fizz_cli.specs.declared.refusal.Refusal.{Refusal};
 ghost use Rattle.fizz_cli.specs.declared.command.Command.{Command};
 
 use crate::command::Command;
-use crate::inputs::{Stop, read_page};
+use crate::inputs::{Stop, output_of};
 use crate::sending::{NO_MEMORY, send, tell};
 use crate::words::{WordsFault, read_words};
 use fizz_outside::{Files, Gate, Sink};
@@ -29,7 +29,7 @@ pub fn fizz_inline<F: Files, S: Sink, N: Sink>(
 ) -> u8
     requires { IsInline command.now }
     ensures same { F.files files.new ≡ F.files files.old }
-    ensures settled { result ≡ 0 → RendersSettled (F.files files.old) command.now (S.held out.old) (S.held out.new)
+    ensures settled { result ≡ 0 → WritesOutput (F.files files.old) command.now (S.held out.old) (S.held out.new)
         × Keeps (N.held notes.old) (N.held notes.new) }
     ensures told { (result ≡ 3) ⊎ (result ≡ 4) → (refusal : Refusal) × (status_of refusal ≡ result)
         × Tells (F.files files.old) command.now (Rose (F.faults files.old) (F.faults files.new))
@@ -42,9 +42,9 @@ pub fn fizz_inline<F: Files, S: Sink, N: Sink>(
         (Rose (S.faults out.old) (S.faults out.new) → ⊥) → (Rose (N.faults notes.old) (N.faults notes.new) → ⊥) →
         result ≢ 8 → IsCalledFor at command.now result }
 {
-    match read_page(alloc, command, files) {
-        Ok(page) => send(0, &page, out),
-        Err(Stop::Refused(refusal)) => tell(alloc, command, refusal, notes),
+    match output_of(alloc, command, files) {
+        Ok(bytes) => send(0, &bytes, out),
+        Err(Stop::Refused(refusal)) => tell(alloc, command, &refusal, notes),
         Err(Stop::OutOfMemory) => NO_MEMORY,
     }
 }
@@ -64,7 +64,7 @@ pub fn fizz<R: Threads + Wait + Sync, F: Files, S: Sink, N: Sink, G: Gate + Sync
     ensures usage { result ≡ 2 → (command_of words.now ≡ None) × Appends (N.held notes.old) (N.held notes.new) usage_note
         × Keeps (S.held out.old) (S.held out.new) }
     ensures settled { result ≡ 0 → (command : Command) × (command_of words.now ≡ Some command)
-        × RendersSettled (F.files files.old) command (S.held out.old) (S.held out.new) × Keeps (N.held notes.old) (N.held notes.new) }
+        × WritesOutput (F.files files.old) command (S.held out.old) (S.held out.new) × Keeps (N.held notes.old) (N.held notes.new) }
     ensures told { (result ≡ 3) ⊎ (result ≡ 4) → (command : Command) × (command_of words.now ≡ Some command)
         × ((refusal : Refusal) × (status_of refusal ≡ result) × Tells (F.files files.old) command (Rose (F.faults files.old) (F.faults files.new))
         (S.held out.old) (S.held out.new) (N.held notes.old) (N.held notes.new) refusal) }

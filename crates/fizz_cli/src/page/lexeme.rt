@@ -5,7 +5,8 @@ ghost use Rattle.std.specs.List.{list_any};
 ghost use Rattle.std.specs.Str.{bytes_eq};
 ghost use Rattle.html_names.specs.Attributes.{attribute_of};
 ghost use Rattle.html_names.specs.Escape.{escaped};
-ghost use Rattle.fizz_cli.specs.Page.{attribute_html, attributes_html, element_html};
+ghost use Rattle.html_names.specs.Printing.{end_tag, tag_front, written_attribute, written_attributes};
+ghost use Rattle.document_machine.specs.Printing.{element_bytes};
 ghost use Rattle.fizz_cli.specs.Source.{attr_of, name_of, IsPlain};
 ghost use Rattle.fizz_cli.specs.Lexemes.{IsNext, lexeme_html};
 ghost use Rattle.fizz_cli.specs.LexemeViews.{lexeme_of, lexeme_found, written_of, writtens_of, written_found, IsAttributeAt, AreAttributesAt, IsTagAt, IsEndTagAt, IsTextAt};
@@ -174,7 +175,7 @@ pub(super) fn push_lexeme(out: &mut Vec<u8>, lexeme: &Lexeme<'_>) -> Result<(), 
 }
 
 fn push_whole(out: &mut Vec<u8>, tag: &Tag<'_>) -> Result<(), OutOfMemory>
-    ensures { OnOk result (out.new.items ≡ out.old.items ++ element_html tag.now.name.now (map attr_of (writtens_of tag.now.attributes.items)) []) }
+    ensures { OnOk result (out.new.items ≡ out.old.items ++ element_bytes tag.now.name.now (map attr_of (writtens_of tag.now.attributes.items)) []) }
 {
     push_tag_front(out, tag)?;
     if element(tag.name).is_some_and(|element| element.is_void) {
@@ -186,7 +187,7 @@ fn push_whole(out: &mut Vec<u8>, tag: &Tag<'_>) -> Result<(), OutOfMemory>
 
 /// Appends `<`, the name and the attributes.
 fn push_tag_front(out: &mut Vec<u8>, tag: &Tag<'_>) -> Result<(), OutOfMemory>
-    ensures { OnOk result (out.new.items ≡ out.old.items ++ (codes "<" ++ tag.now.name.now ++ attributes_html (map attr_of (writtens_of tag.now.attributes.items)))) }
+    ensures { OnOk result (out.new.items ≡ out.old.items ++ tag_front tag.now.name.now (map attr_of (writtens_of tag.now.attributes.items))) }
 {
     push_all(out, b"<")?;
     push_all(out, tag.name)?;
@@ -197,7 +198,7 @@ fn push_attributes(
     out: &mut Vec<u8>,
     attributes: &[WrittenAttribute<'_>],
 ) -> Result<(), OutOfMemory>
-    ensures { OnOk result (out.new.items ≡ out.old.items ++ attributes_html (map attr_of (writtens_of attributes.now))) }
+    ensures { OnOk result (out.new.items ≡ out.old.items ++ written_attributes (map attr_of (writtens_of attributes.now))) }
 {
     for attribute in attributes {
         push_attribute(out, attribute)?;
@@ -206,7 +207,7 @@ fn push_attributes(
 }
 
 fn push_attribute(out: &mut Vec<u8>, attribute: &WrittenAttribute<'_>) -> Result<(), OutOfMemory>
-    ensures { OnOk result (out.new.items ≡ out.old.items ++ attribute_html (attr_of (written_of attribute.now))) }
+    ensures { OnOk result (out.new.items ≡ out.old.items ++ written_attribute (attr_of (written_of attribute.now))) }
 {
     push_all(out, b" ")?;
     push_all(out, printed_name(attribute.name))?;
@@ -229,7 +230,7 @@ fn printed_name(name: &[u8]) -> &[u8]
 }
 
 fn push_end_tag(out: &mut Vec<u8>, name: &[u8]) -> Result<(), OutOfMemory>
-    ensures { OnOk result (out.new.items ≡ out.old.items ++ (codes "</" ++ name.now ++ codes ">")) }
+    ensures { OnOk result (out.new.items ≡ out.old.items ++ end_tag name.now) }
 {
     push_all(out, b"</")?;
     push_all(out, name)?;
