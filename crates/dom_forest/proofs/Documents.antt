@@ -1,17 +1,17 @@
 -- Documents made of entries.
-use Rattle.std.proofs.Common.{◌≡◌, ℕ, ◌+◌, ◌≤◌, ◌==◌, if◌then◌else◌, inl, inr, Option, Some, None, List, [], ◌∷◌, ◌++◌, length, drop, set, get_or, insert, refl, sym, ap, ◌∙◌, subst, arith, add-zero}
+use Rattle.std.proofs.Common.{◌≡◌, ℕ, ◌+◌, ◌≤◌, ◌==◌, if◌then◌else◌, inl, inr, Option, Some, None, List, [], ◌∷◌, ◌++◌, length, sym, ap, ◌∙◌, subst, arith, add-zero}
 use Rattle.std.proofs.lemmas.Bool.{cases_eq}
-use Rattle.std.proofs.lemmas.List.{set_at, get_or_at, append_assoc, append-nil, take_at, drop_at, length-append}
+use Rattle.std.proofs.lemmas.List.{append_assoc, append-nil, length-append}
 use Rattle.dom_forest.specs.declared.node.NewNode.{NewNode}
 use Rattle.dom_forest.specs.declared.entry.Entry.{Entry}
 use Rattle.dom_forest.specs.Forest.{Forest, empty, tree, times, count, joined}
 use Rattle.dom_forest.specs.declared.node.NodeId.{NodeId}
 use Rattle.std.specs.List.{prefix_len}
 use Rattle.dom_forest.specs.Runs.{below_at}
-use Rattle.dom_forest.specs.Edits.{changed, with_last}
-use Rattle.dom_forest.specs.Flat.{flat, forest_of, IsDocument, IsPlace, IsSpan, IsEndOfKids}
+use Rattle.dom_forest.specs.Edits.{with_last}
+use Rattle.dom_forest.specs.Flat.{flat, forest_of, IsDocument, IsSpan, IsEndOfKids}
 use Rattle.dom_forest.proofs.Flattening.{flat-append, flat-joined, length-flat, forest_of-flat, entry_times, entry_times-append, entry_times-flat, counts_one, counts_none}
-use Rattle.dom_forest.proofs.Located.{Located, located, times_of, Known, known, past_kids}
+use Rattle.dom_forest.proofs.Located.{times_of, Known, known, past_kids}
 
 -- Entries that are a forest's flat list, with each id once and below the next one, are a document of it.
 pub document_from : (entries : List Entry) (forest : Forest) (next : ℕ) → flat 0 forest [] ≡ entries
@@ -37,46 +37,6 @@ once_in entries next doc id = subst (λ n. n ≤ 1) (sym (times_of id entries ne
 pub given_in : (entries : List Entry) (next : ℕ) → IsDocument entries next → (id : ℕ) → next ≤ id → entry_times id entries ≡ 0
 given_in entries next doc id h = times_of id entries next doc ∙ doc.numbered.given id h
 
--- A node gets another content.
-abbrev pub with_node : NewNode → Entry → Entry
-with_node node e = record { depth = e.depth; id = e.id; node = node }
-
-module _ (entries : List Entry) (at id next : ℕ) (node : NewNode) (row : Entry) (doc : IsDocument entries next) (here : IsPlace entries at id) (read : row ≡ get_or entries at row) where
-  abbrev set_change : NewNode → Forest → Forest → Forest
-  set_change content kids later = tree id node kids later
-
-  abbrev set_entries : List Entry
-  set_entries = set entries at (with_node node row)
-
-  abbrev place : Located entries at id
-  place = located entries at id next doc here
-
-  abbrev set_rest : List Entry
-  set_rest = flat (place.depth + 1) place.kids (flat place.depth place.later place.back)
-
-  row_is : row ≡ record { depth = place.depth; id = id; node = place.content }
-  row_is = read ∙ ap (λ es. get_or es at row) place.whole ∙ get_or_at place.front _ _ row at place.place
-
-  set_is : set_entries ≡ place.front ++ record { depth = place.depth; id = id; node = node } ∷ set_rest
-  set_is =
-      ap (λ (e : Entry). set entries at (with_node node e)) row_is
-      ∙ ap (λ es. set es at (record { depth = place.depth; id = id; node = node })) place.whole
-      ∙ set_at place.front (record { depth = place.depth; id = id; node = place.content }) set_rest (record { depth = place.depth; id = id; node = node }) at place.place
-
-  set_times : (j : ℕ) → entry_times j set_entries ≡ entry_times j entries
-  set_times j =
-      ap (entry_times j) set_is ∙ entry_times-append j place.front (record { depth = place.depth; id = id; node = node } ∷ set_rest)
-      ∙ sym (entry_times-append j place.front (record { depth = place.depth; id = id; node = place.content } ∷ set_rest)) ∙ ap (entry_times j) (sym place.whole)
-
-  pub set_document : IsDocument set_entries next
-  set_document = document_from set_entries (changed id set_change (forest_of entries)) next
-      (place.edited set_change ∙ sym set_is)
-      (λ j. omega (arith, set_times j, once_in entries next doc j))
-      (λ j h. set_times j ∙ given_in entries next doc j h)
-
-  pub set_forest : forest_of set_entries ≡ changed id set_change (forest_of entries)
-  set_forest = forest_from set_entries (changed id set_change (forest_of entries)) (place.edited set_change ∙ sym set_is)
-
 -- One more node, with the next id.
 inserted_times : (front back : List Entry) (new : Entry) (id : ℕ) → entry_times id (front ++ new ∷ back) ≡ (if new.id == id then 1 else 0) + entry_times id (front ++ back)
 inserted_times front back new id = omega (arith, entry_times-append id front (new ∷ back), entry_times-append id front back)
@@ -98,14 +58,6 @@ pub record Appended (entries : List Entry) (next : ℕ) (parent : Option NodeId)
   pub whole : entries ≡ front ++ back
   pub place : length front ≡ at
   pub written : flat 0 (with_last parent (tree next node empty empty) (forest_of entries)) [] ≡ front ++ record { depth = depth; id = next; node = node } ∷ back
-
-inserted_is : (entries : List Entry) (next : ℕ) (parent : Option NodeId) (node : NewNode) (at depth : ℕ) → (x : Appended entries next parent node at depth)
-    → insert entries at (record { depth = depth; id = next; node = node }) ≡ x.front ++ record { depth = depth; id = next; node = node } ∷ x.back
-inserted_is entries next parent node at depth x =
-    let new : Entry = record { depth = depth; id = next; node = node } in
-    ap (λ es. insert es at new) x.whole
-    ∙ ap (λ es. es ++ new ∷ drop at (x.front ++ x.back)) (take_at x.front x.back at x.place)
-    ∙ ap (λ es. x.front ++ new ∷ es) (drop_at x.front x.back at x.place)
 
 -- The place past all below a node is that past its children and theirs.
 pub span_kids : (entries : List Entry) (at end depth id : ℕ) (forest : Forest) → (span : IsSpan entries at end depth id) → (x : Known span.front span.entry span.after id forest)
@@ -156,15 +108,3 @@ appended_at entries next None node at depth doc end = record {
       ∙ ap (λ n. entries ++ record { depth = n; id = next; node = node } ∷ []) (sym end.1);
 }
 appended_at entries next (Some parent) node at depth doc end = appended_under entries next parent node at depth end.0 end.1 doc end.2 end.3
-
-pub append_document : (entries : List Entry) (next : ℕ) (parent : Option NodeId) (node : NewNode) (at depth : ℕ) → IsDocument entries next
-    → Appended entries next parent node at depth → IsDocument (insert entries at (record { depth = depth; id = next; node = node })) (next + 1)
-append_document entries next parent node at depth doc x =
-    let new : Entry = record { depth = depth; id = next; node = node } in
-    subst (λ es. IsDocument es (next + 1)) (sym (inserted_is entries next parent node at depth x))
-    (inserted_document x.front x.back new next (with_last parent (tree next node empty empty) (forest_of entries)) (subst (λ es. IsDocument es next) x.whole doc) refl x.written)
-
-pub append_forest : (entries : List Entry) (next : ℕ) (parent : Option NodeId) (node : NewNode) (at depth : ℕ)
-    → Appended entries next parent node at depth
-    → forest_of (insert entries at (record { depth = depth; id = next; node = node })) ≡ with_last parent (tree next node empty empty) (forest_of entries)
-append_forest entries next parent node at depth x = forest_from _ _ (x.written ∙ sym (inserted_is entries next parent node at depth x))

@@ -5,6 +5,7 @@ use Rattle.std.proofs.lemmas.Bool.{cond-true, cond-false, eq-eqb, ne_eqb, lt-ltb
 use Rattle.std.proofs.lemmas.List.{drop_at, take_at}
 use Rattle.dom_forest.specs.declared.node.NewNode.{NewNode}
 use Rattle.dom_forest.specs.declared.entry.Entry.{Entry}
+pub use Rattle.dom_forest.specs.Chain.{entry_times}
 use Rattle.dom_forest.specs.Forest.{Forest, empty, tree, times, count, joined}
 use Rattle.dom_forest.specs.Runs.{below_at}
 use Rattle.dom_forest.specs.Flat.{flat, standing, forest_of}
@@ -78,11 +79,6 @@ standing-flat depth (tree i content kids later) more none =
 -- The forest of a flat list is the one that was written.
 pub forest_of-flat : (forest : Forest) → forest_of (flat 0 forest []) ≡ forest
 forest_of-flat forest = (standing-flat 0 forest [] (λ deep h. refl)).at ∙ joined-empty forest
-
--- How often an id stands in entries.
-abbrev pub entry_times : ℕ → List Entry → ℕ
-entry_times id [] = 0
-entry_times id (e ∷ es) = (if e.id == id then 1 else 0) + entry_times id es
 
 pub entry_times-flat : (id depth : ℕ) (forest : Forest) (more : List Entry) → entry_times id (flat depth forest more) ≡ times id forest + entry_times id more
 entry_times-flat id depth empty more = omega arith

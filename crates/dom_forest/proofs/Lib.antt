@@ -1,12 +1,15 @@
+pub mod Chains
 pub mod Documents
 pub mod Flattening
 pub mod Focus
+pub mod Held
 pub mod Located
-pub mod Neighbours
+pub mod Moves
 pub mod OpenElements
 pub mod Parts
 pub mod Renumbering
 pub mod Roots
 pub mod Spines
+pub mod Steps
 pub mod There
 pub mod Walks

@@ -1,15 +1,14 @@
 -- A node of a document, found at its place.
-use Rattle.std.proofs.Common.{◌≡◌, ◌≢◌, ℕ, zero, suc, ◌+◌, ◌-◌, ◌<◌, ◌≤◌, ◌==◌, eqb, ltb, Bool, true, false, if◌then◌else◌, Option, Some, None, List, [], ◌∷◌, ◌++◌, length, take, drop, All, refl, sym, ap, ◌∙◌, subst, arith, add-zero}
+use Rattle.std.proofs.Common.{◌≡◌, ℕ, zero, suc, ◌+◌, ◌-◌, ◌<◌, ◌≤◌, ◌==◌, eqb, ltb, Bool, true, false, if◌then◌else◌, Option, Some, None, List, [], ◌∷◌, ◌++◌, length, take, drop, refl, sym, ap, ◌∙◌, subst, arith, add-zero}
 use Rattle.std.specs.List.{find, prefix_len}
 use Rattle.std.proofs.lemmas.Bool.{cond-true, cond-false, eq-eqb, ne_eqb, lt-ltb, le-ltb}
 use Rattle.std.proofs.lemmas.List.{take_at, drop_at}
-use Rattle.std.proofs.lemmas.List.Elements.{All-head, All-tail}
 use Rattle.dom_forest.specs.declared.node.NewNode.{NewNode}
 use Rattle.dom_forest.specs.declared.entry.Entry.{Entry}
 use Rattle.dom_forest.specs.Forest.{Forest, empty, tree, times, count, from, or_id, parent_of, previous_of, next_of, first_id, first_kids, first_later}
 use Rattle.dom_forest.specs.Edits.{changed}
 use Rattle.dom_forest.specs.Flat.{flat, forest_of, IsDocument, IsPlace}
-use Rattle.dom_forest.proofs.Flattening.{drop-flat, entry_times, entry_times-append, entry_times-flat, counts_one, counts_none, EndsAbove, EndsAbove-later, prefix_len-flat, prefix_len-above}
+use Rattle.dom_forest.proofs.Flattening.{drop-flat, entry_times, entry_times-append, entry_times-flat, counts_one, EndsAbove, EndsAbove-later, prefix_len-flat, prefix_len-above}
 use Rattle.dom_forest.specs.Runs.{kept, parent_step, previous_step, level_id, deeper_id, below_at, closing_in, entry_id}
 use Rattle.dom_forest.specs.declared.boundary.Turn.{Turn}
 use Rattle.dom_forest.specs.declared.boundary.Turn.TheVariants.{Opens, Closes, Stays}
@@ -17,18 +16,11 @@ use Rattle.dom_forest.specs.Boundary.{searched_past, turn_of, closing_mark, end_
 use Rattle.dom_forest.specs.Ids.{has_id, element_with}
 use Rattle.dom_forest.proofs.Focus.{Focus, focus, or_id-none}
 
--- An id that no entry has stands nowhere in the forest.
-entry_times-absent : (id : ℕ) (entries : List Entry) → All (λ (e : Entry). e.id ≢ id) entries → entry_times id entries ≡ 0
-entry_times-absent id [] h = refl
-entry_times-absent id (e ∷ es) h =
-    let here : e.id ≢ id = All-head (λ (x : Entry). x.id ≢ id) e es h in
-    omega (arith, counts_none e.id id here, entry_times-absent id es (All-tail (λ (x : Entry). x.id ≢ id) e es h))
-
 pub times_of : (id : ℕ) (entries : List Entry) (next : ℕ) → IsDocument entries next → entry_times id entries ≡ times id (forest_of entries)
 times_of id entries next doc = ap (entry_times id) (sym doc.whole) ∙ entry_times-flat id 0 (forest_of entries) [] ∙ add-zero (times id (forest_of entries))
 
-pub times-absent : (id : ℕ) (entries : List Entry) (next : ℕ) → IsDocument entries next → All (λ (e : Entry). e.id ≢ id) entries → times id (forest_of entries) ≡ 0
-times-absent id entries next doc h = sym (times_of id entries next doc) ∙ entry_times-absent id entries h
+pub none_there : (id : ℕ) (entries : List Entry) (next : ℕ) → IsDocument entries next → entry_times id entries ≡ 0 → times id (forest_of entries) ≡ 0
+none_there id entries next doc h = sym (times_of id entries next doc) ∙ h
 
 entry_times-here : (id : ℕ) (e : Entry) (es : List Entry) → e.id ≡ id → 1 ≤ entry_times id (e ∷ es)
 entry_times-here id e es h = omega (arith, counts_one e.id id h)
@@ -37,16 +29,6 @@ entry_times-place : (id : ℕ) (entries : List Entry) (at : ℕ) → IsPlace ent
 entry_times-place id [] at h = absurd h
 entry_times-place id (e ∷ es) zero h = entry_times-here id e es h
 entry_times-place id (e ∷ es) (suc at) h = omega (arith, entry_times-place id es at h)
-
-pub place-within : (entries : List Entry) (at id : ℕ) → IsPlace entries at id → at < length entries
-place-within [] at id h = absurd h
-place-within (e ∷ es) zero id h = omega arith
-place-within (e ∷ es) (suc at) id h = omega (arith, place-within es at id h)
-
-pub place-cut : (entries : List Entry) (at id : ℕ) (e : Entry) (after : List Entry) → IsPlace entries at id → drop at entries ≡ e ∷ after → e.id ≡ id
-place-cut [] at id e after h cut = absurd h
-place-cut (f ∷ fs) zero id e after h cut = let same : f ≡ e = cc in ap (λ (x : Entry). x.id) (sym same) ∙ h
-place-cut (f ∷ fs) (suc at) id e after h cut = place-cut fs at id e after h cut
 
 -- A node stands at one place.
 one_place : (id : ℕ) (front : List Entry) (e : Entry) (rest : List Entry) (at : ℕ) → entry_times id (front ++ e ∷ rest) ≤ 1 → e.id ≡ id → IsPlace (front ++ e ∷ rest) at id → length front ≡ at
@@ -101,14 +83,6 @@ located entries at id next doc here =
     located_at entries at id next doc here
     (focus id 0 (forest_of entries) [] None None (omega (arith, few, times_of id entries next doc, entry_times-place id entries at here)) tt)
 
-pub place-deep : (entries : List Entry) (at id next : ℕ) (e : Entry) (after : List Entry) → IsDocument entries next → IsPlace entries at id → drop at entries ≡ e ∷ after → e.depth ≤ at
-place-deep entries at id next e after doc here cut =
-    let x = located entries at id next doc here in
-    let row : Entry = record { depth = x.depth; id = id; node = x.content } in
-    let same : row ∷ flat (x.depth + 1) x.kids (flat x.depth x.later x.back) ≡ e ∷ after = sym (ap (drop at) x.whole ∙ drop_at x.front _ at x.place) ∙ cut in
-    let row_is : row ≡ e = cc in
-    omega (arith, x.deep, ap (λ (y : Entry). y.depth) row_is)
-
 -- A node of a document, whose entries are cut at it.
 pub record Known (front : List Entry) (entry : Entry) (after : List Entry) (id : ℕ) (forest : Forest) : Type 0 where
   pub kids : Forest
@@ -122,7 +96,7 @@ pub record Known (front : List Entry) (entry : Entry) (after : List Entry) (id :
   pub parent : parent_of id forest ≡ kept (parent_step entry.depth) None front
   pub previous : previous_of id forest ≡ kept (previous_step entry.depth) None front
 
-place_in : (front : List Entry) (e : Entry) (after : List Entry) (id : ℕ) → e.id ≡ id → IsPlace (front ++ e ∷ after) (length front) id
+pub place_in : (front : List Entry) (e : Entry) (after : List Entry) (id : ℕ) → e.id ≡ id → IsPlace (front ++ e ∷ after) (length front) id
 place_in [] e after id h = h
 place_in (f ∷ front) e after id h = place_in front e after id h
 

@@ -55,20 +55,20 @@ pub spanned_rest : (entries : List Entry) (at end depth id : ℕ) → (x : Spann
 spanned_rest entries at end depth id x = ap (drop at) x.whole ∙ drop_at x.front (flat depth (tree id x.content x.kids x.later) x.back) at x.place
 
 module _ (entries : List Entry) (at end depth id next : ℕ) (doc : IsDocument entries next) (x : Spanned entries at end depth id) where
-  abbrev outer : List Entry
+  abbrev pub outer : List Entry
   outer = flat depth x.later x.back
 
-  abbrev one : Forest
+  abbrev pub one : Forest
   one = tree id x.content x.kids empty
 
   -- the node with all below it
-  abbrev inner : List Entry
+  abbrev pub inner : List Entry
   inner = flat depth one []
 
-  halves : entries ≡ x.front ++ (inner ++ outer)
+  pub halves : entries ≡ x.front ++ (inner ++ outer)
   halves = x.whole ∙ ap (λ es. x.front ++ es) (flat-append depth one [] outer)
 
-  inner_size : length inner ≡ end - at
+  pub inner_size : length inner ≡ end - at
   inner_size = omega (arith, length-flat depth one [], x.past)
 
   pub cut_part : take (end - at) (drop at entries) ≡ inner
@@ -134,7 +134,7 @@ module _ (entries : List Entry) (at end depth id first : ℕ) (part : List Entry
   abbrev put_change : NewNode → Forest → Forest → Forest
   put_change content kids later = joined (renumbered first (forest_of part)) (tree id content kids later)
 
-  abbrev put : List Entry
+  abbrev pub put : List Entry
   put = renumbered_entries first (map (shifted 0 depth) part)
 
   put_is : put ≡ flat depth (renumbered first (forest_of part)) []
@@ -143,10 +143,10 @@ module _ (entries : List Entry) (at end depth id first : ℕ) (part : List Entry
       ∙ ap (renumbered_entries first) (shifted-flat 0 depth 0 (forest_of part) [] ∙ ap (λ n. flat n (forest_of part) []) (omega arith))
       ∙ renumbered-flat first depth (forest_of part) []
 
-  abbrev node_on : List Entry
+  abbrev pub node_on : List Entry
   node_on = flat depth (tree id x.content x.kids x.later) x.back
 
-  put_entries : take at entries ++ (put ++ drop at entries) ≡ x.front ++ (put ++ node_on)
+  pub put_entries : take at entries ++ (put ++ drop at entries) ≡ x.front ++ (put ++ node_on)
   put_entries =
       ap (λ es. take at es ++ (put ++ drop at es)) x.whole
       ∙ ap (λ es. es ++ (put ++ drop at (x.front ++ node_on))) (take_at x.front node_on at x.place)

@@ -1,7 +1,6 @@
 -- Entries that get other ids or depths.
-use Rattle.std.proofs.Common.{◌≡◌, ℕ, suc, ◌+◌, ◌<◌, ◌≤◌, List, [], ◌∷◌, ◌++◌, length, take, drop, set, get_or, map, refl, sym, ap, ◌∙◌, arith, add-zero, inl, inr, ◌^◌}
+use Rattle.std.proofs.Common.{◌≡◌, ℕ, suc, ◌+◌, ◌<◌, ◌≤◌, List, [], ◌∷◌, ◌++◌, length, map, refl, sym, ap, ◌∙◌, arith, add-zero, inl, inr, ◌^◌}
 use Rattle.std.specs.List.{AllByRecursion}
-use Rattle.std.proofs.lemmas.List.{set_at, get_or_at, append_assoc, drop_more, take_more, length-take-le}
 use Rattle.dom_forest.specs.declared.entry.Entry.{Entry}
 use Rattle.dom_forest.specs.Forest.{Forest, empty, tree, count}
 use Rattle.dom_forest.specs.Edits.{renumbered}
@@ -20,23 +19,6 @@ renumbered_entries-push next (f ∷ es) e =
 pub length-renumbered_entries : (next : ℕ) (es : List Entry) → length (renumbered_entries next es) ≡ length es
 length-renumbered_entries next [] = refl
 length-renumbered_entries next (e ∷ es) = ap suc (length-renumbered_entries (next + 1) es)
-
--- A turn of the loop that gives ids.
-pub renumber_more : (first : ℕ) (old now : List Entry) (k : ℕ) (item : Entry) → k < length old → now ≡ renumbered_entries first (take k old) ++ drop k old
-    → set now k (with_id (first + k) (get_or now k item)) ≡ renumbered_entries first (take (k + 1) old) ++ drop (k + 1) old
-renumber_more first old now k item h is =
-    let old_item = get_or old k item in
-    let front = renumbered_entries first (take k old) in
-    let size : length front ≡ k = length-renumbered_entries first (take k old) ∙ length-take-le k old (omega arith) in
-    let cut : now ≡ front ++ old_item ∷ drop (k + 1) old = is ∙ ap (λ es. front ++ es) (drop_more old k item h) in
-    let read : get_or now k item ≡ old_item = ap (λ es. get_or es k item) cut ∙ get_or_at front old_item (drop (k + 1) old) item k size in
-    ap (λ (e : Entry). set now k (with_id (first + k) e)) read
-    ∙ ap (λ es. set es k (with_id (first + k) old_item)) cut
-    ∙ set_at front old_item (drop (k + 1) old) (with_id (first + k) old_item) k size
-    ∙ sym (ap (λ es. renumbered_entries first es ++ drop (k + 1) old) (take_more old k item h)
-    ∙ ap (λ es. es ++ drop (k + 1) old) (renumbered_entries-push first (take k old) old_item)
-    ∙ ap (λ n. (front ++ with_id (first + n) old_item ∷ []) ++ drop (k + 1) old) (length-take-le k old (omega arith))
-    ∙ append_assoc front (with_id (first + k) old_item ∷ []) (drop (k + 1) old))
 
 -- A forest's flat list keeps its shape.
 pub renumbered-flat : (next depth : ℕ) (forest : Forest) (more : List Entry)

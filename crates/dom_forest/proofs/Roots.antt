@@ -28,3 +28,8 @@ tells_root empty root below whole = cc
 tells_root (tree i content kids later) root below whole =
     subst (λ r. Tells (tree i content kids later) r below) (ap (head_or root) whole)
     (subst (λ es. Tells (tree i content kids later) (record { depth = 0; id = i; node = content }) es) (ap tail_of whole) (tells_row i content kids later))
+
+pub one_root : (forest : Forest) (root : Entry) (below : List Entry) → flat 0 forest [] ≡ root ∷ below → IsOneElement forest → IsElement (Some root.node)
+one_root empty root below whole one = absurd one
+one_root (tree i content kids empty) root below whole one = subst (λ (r : Entry). IsElement (Some r.node)) (ap (head_or root) whole) one
+one_root (tree i content kids (tree j other inner later)) root below whole one = absurd one

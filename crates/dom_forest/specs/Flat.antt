@@ -64,3 +64,7 @@ IsThereOrTop (Some parent) forest = IsThere parent.0 forest
 abbrev pub IsEndOfKids : List Entry → Option NodeId → ℕ → ℕ → Type 0
 IsEndOfKids entries None at depth = (at ≡ length entries) × (depth ≡ 0)
 IsEndOfKids entries (Some parent) at depth = (here : ℕ) × (level : ℕ) × IsSpan entries here at level parent.0 × (depth ≡ level + 1)
+
+-- So many entries are a node, its depth, and all below it.
+abbrev pub IsPart : List Entry → ℕ → ℕ → ℕ → Type 0
+IsPart entries id many depth = (place : ℕ) × IsSpan entries place (place + many) depth id

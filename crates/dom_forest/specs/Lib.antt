@@ -1,8 +1,10 @@
 pub mod Boundary
+pub mod Chain
 pub mod Edits
 pub mod Flat
 pub mod Forest
 pub mod Ids
+pub mod Moves
 pub mod OpenElements
 pub mod Printing
 pub mod Refusals
@@ -10,3 +12,4 @@ pub mod Runs
 pub mod Seen
 pub mod Spine
 pub mod Stored
+pub mod Walk

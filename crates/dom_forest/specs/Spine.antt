@@ -1,6 +1,9 @@
 -- The nodes in which the last one stands.
-use Rattle.std.specs.Prelude.{◌≡◌, ℕ, ◌<◌, List, [], ◌∷◌, Option, Some, None, length, drop, insert, reverse}
+use Rattle.std.specs.Prelude.{ℕ, ◌<◌, ◌++◌, Bool, true, nat_lt, List, [], ◌∷◌, Option, Some, None, length, reverse}
 use Rattle.dom_forest.specs.declared.entry.Entry.{Entry}
+use Rattle.dom_forest.specs.declared.chain.Slot.{Slot}
+use Rattle.dom_forest.specs.declared.chain.Chain.{Chain}
+use Rattle.dom_forest.specs.Chain.{IsChainOf, entries_of, rest_from}
 use Rattle.dom_forest.specs.Flat.{IsDocument}
 
 -- All entries are deeper.
@@ -8,30 +11,42 @@ abbrev pub AllBelow : ℕ → List Entry → Type 0
 AllBelow depth [] = Unit {0}
 AllBelow depth (e ∷ es) = (depth < e.depth) × AllBelow depth es
 
--- There is a first entry, and all others stand below it.
-abbrev pub IsLastTree : List Entry → Type 0
-IsLastTree [] = ⊥
-IsLastTree (e ∷ es) = AllBelow e.depth es
+-- Of entries from a node on: the node is less deep than the bound, and all others stand below it. There are none from a
+-- node that is gone.
+abbrev pub OnSpine : List Entry → ℕ → (ℕ → Type 0) → Type 0
+OnSpine [] bound above = above bound
+OnSpine (e ∷ es) bound above = (e.depth < bound) × AllBelow e.depth es × above e.depth
 
--- Places below `bound`, in descending order, of nodes after which nothing comes but what stands below them.
-abbrev pub IsSpine : List Entry → ℕ → List ℕ → Type 0
-IsSpine entries bound [] = Unit {0}
-IsSpine entries bound (place ∷ above) = (place < bound) × (IsLastTree (drop place entries) × IsSpine entries place above)
+-- Ids of nodes less deep than the bound, the deepest first, after which nothing comes but what stands below them.
+abbrev pub IsSpine : List Entry → ℕ → List ℕ → ℕ → Type 0
+IsSpine entries next [] bound = Unit {0}
+IsSpine entries next (id ∷ ids) bound = (id < next) × OnSpine (rest_from (Some id) entries) bound (IsSpine entries next ids)
 
--- The same of places in ascending order.
-abbrev pub IsSpineOf : List Entry → List ℕ → Type 0
-IsSpineOf entries places = IsSpine entries (length entries) (reverse places)
+-- The same of ids in document order, with any bound.
+abbrev pub IsSpineOf : List Entry → ℕ → List ℕ → Type 0
+IsSpineOf entries next ids = (bound : ℕ) × IsSpine entries next (reverse ids) bound
 
--- The places stay so where an entry of this depth comes in, and all of them are before it.
-abbrev pub HasRoom : List Entry → ℕ → ℕ → List ℕ → Type 0
-HasRoom entries at depth places = (new : Entry) → new.depth ≡ depth → IsSpine (insert entries at new) at (reverse places)
+-- The slot is gone, or deeper.
+abbrev pub is_late : ℕ → Option Slot → Bool
+is_late depth None = true
+is_late depth (Some s) = nat_lt depth s.depth
+
+-- The chain is that of a document.
+pub record IsHeld (chain : Chain) : Type 0 where
+  pub links : IsChainOf chain (entries_of chain)
+  pub document : IsDocument (entries_of chain) (length chain.slots.items)
 
 -- What a document keeps.
-pub record IsKept (entries : List Entry) (next : ℕ) (places : List ℕ) : Type 0 where
-  pub document : IsDocument entries next
-  pub spine : IsSpineOf entries places
+pub record IsKept (chain : Chain) (ids : List ℕ) : Type 0 where
+  pub held : IsHeld chain
+  pub spine : IsSpineOf (entries_of chain) (length chain.slots.items) ids
 
--- The first of places in descending order.
+-- The first of ids.
 abbrev pub first_place : List ℕ → Option ℕ
 first_place [] = None
-first_place (place ∷ above) = Some place
+first_place (id ∷ ids) = Some id
+
+-- The ids with another one at the end, where nothing comes after it.
+abbrev pub noted : Option ℕ → ℕ → List ℕ → List ℕ
+noted None id ids = ids ++ id ∷ []
+noted (Some next) id ids = ids

@@ -10,8 +10,8 @@ ghost use Rattle.dom_forest.specs.Forest.{IsComment, IsElement, IsOneElement, Is
 ghost use Rattle.dom_forest.specs.Ids.{element_with};
 ghost use Rattle.dom_forest.specs.Seen.{number, shown, shown_node};
 
+use crate::chain::{self, Chain};
 use crate::digest::digest_set;
-use crate::entry::{Entry, copied};
 use crate::node::{DomNode, Mark, NewNode, NodeId};
 use crate::{edits, queries};
 use fizz_text::{OutOfMemory, Text};
@@ -21,22 +21,21 @@ use std::marker::Model;
 /// A document whose nodes have ids, as a forest of nodes. A node keeps its id as long as it is there, and the id of a
 /// removed node never comes back.
 ///
-/// The nodes stand in a list in document order, each with its depth. A node is found by its id at once, and that an id
-/// is not there by going over all nodes. A node's neighbours, and the end of what stands below it, are found by going
-/// over the nodes between, and `find_id` goes over all nodes before the one that it finds. `remove`, `insert_before` and
-/// an `append` before other nodes move all later nodes.
+/// The nodes stand in a chain in document order, each with its depth and with links to the one before it and the one
+/// after it. A node, or that it is not there, is found by its id at once, and so is a first child. A node's other
+/// neighbours, and the end of what stands below it, are found by going over the nodes between, and `find_id` goes over
+/// all nodes before the one that it finds. `remove` and `insert_before` move the nodes of the part one by one, and no
+/// others. `inner` and `copy` go over all ids that were given.
 ///
-/// By `append` a document is built in document order in time in proportion to its nodes: a new last node and its parent
-/// are known then to reach to the end, and below a node that is known to, or at the top, `append` goes over no other
-/// node. Below any other node it goes over all that stand there. `remove` and `insert_before` make the nodes from their
-/// place on unknown, and after `inner`, and in a part that `remove` made, none is known.
+/// By `append` a document is built in document order in time in proportion to its nodes: a new last node is known then
+/// to reach to the end, and below a node that is known to, or at the top, `append` goes over no other node. Below any
+/// other node it goes over all that stand there. `remove` and `insert_before` leave known what was. After `inner`, and
+/// in a part that `remove` made, none is known.
 #[derive(Debug, Drop)]
 pub struct Dom {
-    entries: Vec<Entry>,
-    /// Where the node of each id stood last. Its length is the next id.
-    places: Vec<usize>,
-    /// The places, in ascending order, of nodes that are known to reach to the end: nothing comes after them but what
-    /// stands below them. So a new child of one of them comes last.
+    chain: Chain,
+    /// The ids, in document order, of nodes that are known to reach to the end: nothing comes after them but what stands
+    /// below them. So a new child of one of them comes last. Some may be gone.
     spine: Vec<usize>,
 }
 
@@ -49,12 +48,13 @@ impl Model for Dom {
 
     ghost coded = { numbered_code };
 
+    ghost use Rattle.dom_forest.specs.Chain.{entries_of};
     ghost use Rattle.dom_forest.specs.Flat.{forest_of};
     ghost use Rattle.dom_forest.specs.Spine.{IsKept};
 
-    ghost view = { λ d. record { forest = forest_of d.entries.items; next = length d.places.items } };
+    ghost view = { λ d. record { forest = forest_of (entries_of d.chain); next = length d.chain.slots.items } };
 
-    ghost invariant = { λ d. IsKept d.entries.items (length d.places.items) d.spine.items };
+    ghost invariant = { λ d. IsKept d.chain d.spine.items };
 }
 
 /// Why a part was not inserted. The part comes back.
@@ -71,8 +71,7 @@ impl Dom {
         ensures { result ≡ nothing }
     {
         Dom {
-            entries: Vec::new(alloc),
-            places: Vec::new(alloc),
+            chain: chain::nothing(alloc),
             spine: Vec::new(alloc),
         }
     }
@@ -81,17 +80,10 @@ impl Dom {
     pub fn copy(&self) -> Result<Dom, OutOfMemory>
         ensures { IfOk result (λ dom. dom ≡ self.now) }
     {
-        let alloc = *self.entries.allocator();
-        let entries = copied(alloc, &self.entries)?;
-        let mut places = Vec::new(alloc);
-        places.extend_from_slice(&self.places)?;
-        let mut spine = Vec::new(alloc);
+        let chain = chain::copy(&self.chain)?;
+        let mut spine = Vec::new(*self.spine.allocator());
         spine.extend_from_slice(&self.spine)?;
-        Ok(Dom {
-            entries,
-            places,
-            spine,
-        })
+        Ok(Dom { chain, spine })
     }
 
     /// Makes the node the last child of an element that is there, or the last node at the top for `None`. A refusal
@@ -103,13 +95,7 @@ impl Dom {
         ensures err { OnErr result (self.new ≡ self.old) }
         ensures numbered { IsNumbered self.new }
     {
-        edits::append_node(
-            &mut self.entries,
-            &mut self.places,
-            &mut self.spine,
-            parent,
-            node,
-        )
+        edits::append_node(&mut self.chain, &mut self.spine, parent, node)
     }
 
     /// The content of a node, or `None` exactly where it is not there.
@@ -118,7 +104,7 @@ impl Dom {
         // each id stands once, and below the next one
         ensures numbered { IsNumbered self.now }
     {
-        match queries::content(&self.entries, &self.places, node.0) {
+        match queries::content(&self.chain, node.0) {
             Some(content) => Some(seen(content)),
             None => None,
         }
@@ -128,21 +114,21 @@ impl Dom {
     pub fn parent(&self, node: NodeId) -> Option<NodeId>
         ensures { number result ≡ parent_of node.0 self.now.forest }
     {
-        queries::parent(&self.entries, &self.places, node.0).map(NodeId)
+        queries::parent(&self.chain, node.0).map(NodeId)
     }
 
     /// The previous sibling, or `None` exactly where the node is not there or is the first of its siblings.
     pub fn previous(&self, node: NodeId) -> Option<NodeId>
         ensures { number result ≡ previous_of node.0 self.now.forest }
     {
-        queries::previous(&self.entries, &self.places, node.0).map(NodeId)
+        queries::previous(&self.chain, node.0).map(NodeId)
     }
 
     /// The next sibling, or `None` exactly where the node is not there or is the last of its siblings.
     pub fn next(&self, node: NodeId) -> Option<NodeId>
         ensures { number result ≡ next_of node.0 self.now.forest }
     {
-        queries::next(&self.entries, &self.places, node.0).map(NodeId)
+        queries::next(&self.chain, node.0).map(NodeId)
     }
 
     /// The first child of a node, or the first node at the top for `None`; `None` exactly where there is none.
@@ -150,8 +136,8 @@ impl Dom {
         ensures { number result ≡ first_of parent self.now.forest }
     {
         match parent {
-            Some(parent) => queries::first_child(&self.entries, &self.places, parent.0).map(NodeId),
-            None => queries::first_node(&self.entries, &self.places).map(NodeId),
+            Some(parent) => queries::first_child(&self.chain, parent.0).map(NodeId),
+            None => queries::first_node(&self.chain).map(NodeId),
         }
     }
 
@@ -160,12 +146,7 @@ impl Dom {
         requires { IsComment (content_of node.0 self.old.forest) }
         ensures { self.new ≡ with_content node.0 (Comment mark) self.old }
     {
-        edits::set_content(
-            &mut self.entries,
-            &self.places,
-            node.0,
-            NewNode::Comment(mark),
-        );
+        edits::set_content(&mut self.chain, node.0, NewNode::Comment(mark));
     }
 
     /// Sets the attribute `data-dgst` of an element: it replaces every attribute of that name, at the place of the first,
@@ -175,9 +156,9 @@ impl Dom {
         ensures ok { OnOk result (self.new ≡ with_digest_at node.0 digest self.old) }
         ensures err { OnErr result (self.new ≡ self.old) }
     {
-        if let Some(content) = queries::content(&self.entries, &self.places, node.0) {
-            let content = digest_set(*self.entries.allocator(), content, digest)?;
-            edits::set_content(&mut self.entries, &self.places, node.0, content);
+        if let Some(content) = queries::content(&self.chain, node.0) {
+            let content = digest_set(*self.spine.allocator(), content, digest)?;
+            edits::set_content(&mut self.chain, node.0, content);
         }
         Ok(())
     }
@@ -186,7 +167,7 @@ impl Dom {
     pub fn is_one_element(&self) -> bool
         ensures { IsTrue result ↔ IsOneElement self.now.forest }
     {
-        queries::is_one_element(&self.entries, &self.places)
+        queries::is_one_element(&self.chain)
     }
 
     /// The children of the one node at the top, which is an element. They keep their ids.
@@ -195,17 +176,12 @@ impl Dom {
         ensures { IfOk result (λ dom. dom ≡ inner_of self) }
     {
         let Dom {
-            mut entries,
-            mut places,
+            mut chain,
             mut spine,
         } = self;
-        edits::drop_root(&mut entries, &mut places);
+        edits::drop_root(&mut chain);
         spine.clear();
-        Ok(Dom {
-            entries,
-            places,
-            spine,
-        })
+        Ok(Dom { chain, spine })
     }
 
     /// Takes a node out with all below it, which becomes a document of its own with ids from 0; `None` exactly where the
@@ -216,23 +192,15 @@ impl Dom {
         ensures part { IfOk result (λ part. IfSome part (λ dom. dom ≡ part_of node.0 self.old)) }
         ensures err { OnErr result (self.new ≡ self.old) }
     {
-        let Some(span) = queries::span_of(&self.entries, &self.places, node.0) else {
+        let Some((many, depth)) = edits::part_at(&self.chain, node.0) else {
             return Ok(None);
         };
-        let alloc = *self.places.allocator();
-        let mut places = Vec::new(alloc);
-        places.resize(span.end - span.at, 0)?;
-        let entries = edits::take_part(
-            &mut self.entries,
-            &mut self.places,
-            &mut self.spine,
-            span,
-            node.0,
-        )?;
-        edits::note_places(&entries, &mut places, 0);
+        let alloc = *self.spine.allocator();
+        let mut part = chain::nothing(alloc);
+        part.slots.reserve(many)?;
+        edits::take_part(&mut self.chain, &mut part, node.0, many, depth);
         Ok(Some(Dom {
-            entries,
-            places,
+            chain: part,
             spine: Vec::new(alloc),
         }))
     }
@@ -245,20 +213,14 @@ impl Dom {
         ensures refused { IfErr result (IsRefusal place.0 self.old part) }
         ensures err { OnErr result (self.new ≡ self.old) }
     {
-        let Some(span) = queries::span_of(&self.entries, &self.places, place.0) else {
+        let Some((_, depth)) = edits::part_at(&self.chain, place.0) else {
             return Err(InsertRefused::NoPlace { part });
         };
-        match edits::make_room(&mut self.entries, &mut self.places, part.entries.len()) {
+        let many = chain::count_all(&part.chain);
+        match self.chain.slots.reserve(many) {
             Ok(()) => {
-                let Dom { entries, .. } = part;
-                edits::put_part(
-                    &mut self.entries,
-                    &mut self.places,
-                    &mut self.spine,
-                    span,
-                    place.0,
-                    entries,
-                );
+                let Dom { mut chain, .. } = part;
+                edits::put_part(&mut self.chain, &mut chain, place.0, many, depth);
                 Ok(())
             }
             Err(_) => Err(InsertRefused::OutOfMemory { part }),
@@ -269,7 +231,7 @@ impl Dom {
     pub fn find_id(&self, id: &[u8]) -> Option<NodeId>
         ensures { number result ≡ element_with id.now self.now.forest }
     {
-        queries::find_id(&self.entries, &self.places, id).map(NodeId)
+        queries::find_id(&self.chain, id).map(NodeId)
     }
 
     /// The `/$` that ends the boundary of a template, among its later siblings, where `$`, `$?` and `$!` count up and
@@ -277,7 +239,7 @@ impl Dom {
     pub fn end_of_boundary(&self, template: NodeId) -> Option<NodeId>
         ensures { number result ≡ end_of_boundary template.0 self.now.forest }
     {
-        queries::end_of_boundary(&self.entries, &self.places, template.0).map(NodeId)
+        queries::end_of_boundary(&self.chain, template.0).map(NodeId)
     }
 }
 

@@ -1,16 +1,15 @@
-//! The nodes of a document in a flat list.
+//! The nodes of a document as entries, and walks along them.
 
-ghost use Rattle.std.specs.Prelude.{◌≡◌, ◌≢◌, ◌==◌, ◌+◌, ◌<◌, ◌≤◌, ◌^◌, All, IfNone, IfOk, IfSome, IsSomeAnd, None, length, drop, find, position, reverse, nat_le, nat_lt, slice_get};
+ghost use Rattle.std.specs.Prelude.{◌≡◌, ◌∷◌, ◌<◌, ◌≤◌, IfNone, IfSome, None, Some, drop, length};
 ghost use Rattle.std.specs.List.{prefix_len};
-ghost use Rattle.std.specs.Option.{option_copied};
-ghost use Rattle.dom_forest.specs.Flat.{IsPlace};
+ghost use Rattle.dom_forest.specs.Chain.{IsChainOf, entries_of, entry_in, head_id, last_id, rest_from, up_to};
 ghost use Rattle.dom_forest.specs.Runs.{below_at, deeper_id, kept, level_id, parent_step, previous_step};
+ghost use Rattle.dom_forest.specs.Walk.{IsDeeper};
 
+use crate::chain::{Chain, Slot, slot_of};
 use crate::node::NewNode;
-use fizz_text::OutOfMemory;
-use std::alloc::Global;
 
-/// A node in document order: a node comes before its children, and they before its later siblings.
+/// A node in document order, by which contracts speak of a chain.
 #[derive(Debug, Drop)]
 pub(crate) struct Entry {
     /// How many nodes it stands in.
@@ -19,107 +18,99 @@ pub(crate) struct Entry {
     pub(crate) node: NewNode,
 }
 
-/// Equal entries.
-pub(crate) fn copied(alloc: Global, entries: &[Entry]) -> Result<Vec<Entry>, OutOfMemory>
-    ensures { IfOk result (λ copies. copies.items ≡ entries.now) }
+/// The slot of a node that is there and is deeper.
+fn deeper_slot(chain: &Chain, id: Option<usize>, depth: usize) -> Option<&Slot>
+    requires { IsChainOf chain.now (entries_of chain.now) }
+    ensures deeper { IfSome result (λ slot. IsDeeper (entries_of chain.now) id depth slot.now) }
+    ensures not { IfNone result (prefix_len (below_at depth) (rest_from id (entries_of chain.now)) ≡ 0) }
 {
-    let mut copies = Vec::with_capacity(alloc, entries.len())?;
-    for entry in entries {
-        copies.push(Entry {
-            depth: entry.depth,
-            id: entry.id,
-            node: entry.node.copy(alloc)?,
-        })?;
-    }
-    Ok(copies)
-}
-
-/// Where the node stands. `places` says where each one stood last, and is believed only where it still does.
-pub(crate) fn place_of(entries: &[Entry], places: &[usize], id: usize) -> Option<usize>
-    ensures found { IfSome result (λ at. IsPlace entries.now at id) }
-    ensures absent { IfNone result (All (λ e. e.id ≢ id) entries.now) }
-{
-    match known_place(entries, places, id) {
-        Some(at) => Some(at),
-        None => scan_for(entries, id),
+    let Some(id) = id else {
+        return None;
+    };
+    match slot_of(chain, id) {
+        Some(slot) if depth < slot.depth => Some(slot),
+        _ => None,
     }
 }
 
-fn known_place(entries: &[Entry], places: &[usize], id: usize) -> Option<usize>
-    ensures { IfSome result (λ at. IsPlace entries.now at id) }
+/// How many nodes from one on are deeper, and the one that comes after them.
+pub(crate) fn passed(chain: &Chain, id: Option<usize>, depth: usize) -> (usize, Option<usize>)
+    requires { IsChainOf chain.now (entries_of chain.now) }
+    ensures count { result.0 ≡ prefix_len (below_at depth) (rest_from id (entries_of chain.now)) }
+    ensures rest { rest_from result.1 (entries_of chain.now) ≡ drop (prefix_len (below_at depth) (rest_from id (entries_of chain.now))) (rest_from id (entries_of chain.now)) }
+    ensures head { id ≡ head_id (rest_from id (entries_of chain.now)) None → result.1 ≡ head_id (rest_from result.1 (entries_of chain.now)) None }
 {
-    let place = *places.get(id)?;
-    (entries.get(place)?.id == id).then_some(place)
+    let mut count: usize = 0;
+    let mut next = id;
+    while let Some(slot) = deeper_slot(chain, next, depth) {
+        count += 1;
+        next = slot.next;
+    }
+    (count, next)
 }
 
-fn scan_for(entries: &[Entry], id: usize) -> Option<usize>
-    ensures found { IfSome result (λ at. IsPlace entries.now at id) }
-    ensures absent { IfNone result (All (λ e. e.id ≢ id) entries.now) }
+/// The id of a node at a depth.
+pub(crate) fn level_at(chain: &Chain, id: Option<usize>, depth: usize) -> Option<usize>
+    requires { IsChainOf chain.now (entries_of chain.now) }
+    ensures { result ≡ level_id depth (rest_from id (entries_of chain.now)) }
 {
-    entries.iter().position(|entry| entry.id == id)
-}
-
-/// How many entries at the front are deeper.
-pub(crate) fn deeper(entries: &[Entry], depth: usize) -> usize
-    ensures count { result ≡ prefix_len (below_at depth) entries.now }
-    ensures bound { result ≤ length entries.now }
-{
-    entries
-        .iter()
-        .take_while(|entry| depth < entry.depth)
-        .count()
-}
-
-/// The last entry that is less deep.
-fn last_above(entries: &[Entry], depth: usize) -> Option<&Entry>
-    ensures { option_copied result ≡ find (λ e. nat_lt e.depth depth) (reverse entries.now) }
-{
-    entries.iter().rev().find(|entry| entry.depth < depth)
-}
-
-/// The last entry that is no deeper.
-fn last_within(entries: &[Entry], depth: usize) -> Option<&Entry>
-    ensures { option_copied result ≡ find (λ e. nat_le e.depth depth) (reverse entries.now) }
-{
-    entries.iter().rev().find(|entry| entry.depth <= depth)
-}
-
-/// The parent of a node at a depth, among the entries before it.
-pub(crate) fn parent_before(before: &[Entry], depth: usize) -> Option<usize>
-    ensures { result ≡ kept (parent_step depth) None before.now }
-{
-    match last_above(before, depth) {
-        Some(parent) => Some(parent.id),
+    let Some(id) = id else {
+        return None;
+    };
+    match slot_of(chain, id) {
+        Some(slot) => (slot.depth == depth).then_some(id),
         None => None,
     }
 }
 
-/// The previous sibling of a node at a depth, among the entries before it.
-pub(crate) fn previous_before(before: &[Entry], depth: usize) -> Option<usize>
-    ensures { result ≡ kept (previous_step depth) None before.now }
+/// The id of a node that is deeper.
+pub(crate) fn deeper_at(chain: &Chain, id: Option<usize>, depth: usize) -> Option<usize>
+    requires { IsChainOf chain.now (entries_of chain.now) }
+    ensures { result ≡ deeper_id depth (rest_from id (entries_of chain.now)) }
 {
-    match last_within(before, depth) {
-        Some(previous) => (previous.depth == depth).then_some(previous.id),
+    let Some(id) = id else {
+        return None;
+    };
+    match slot_of(chain, id) {
+        Some(slot) => (depth < slot.depth).then_some(id),
         None => None,
     }
 }
 
-/// The next sibling of a node at a depth, among the entries after it.
-pub(crate) fn next_after(after: &[Entry], depth: usize) -> Option<usize>
-    ensures { result ≡ level_id depth (drop (prefix_len (below_at depth) after.now) after.now) }
+/// The parent of a node at a depth, among the nodes up to one before it.
+pub(crate) fn parent_before(chain: &Chain, previous: Option<usize>, depth: usize) -> Option<usize>
+    requires chain { IsChainOf chain.now (entries_of chain.now) }
+    requires there { previous ≡ last_id None (up_to previous (entries_of chain.now)) }
+    ensures { result ≡ kept (parent_step depth) None (up_to previous (entries_of chain.now)) }
 {
-    match after.get(deeper(after, depth)) {
-        Some(next) => (next.depth == depth).then_some(next.id),
-        None => None,
+    let mut before = previous;
+    while let Some(id) = before {
+        let Some(slot) = slot_of(chain, id) else {
+            return None;
+        };
+        if slot.depth < depth {
+            return Some(id);
+        }
+        before = slot.previous;
     }
+    None
 }
 
-/// The first child of a node at a depth, among the entries after it.
-pub(crate) fn child_after(after: &[Entry], depth: usize) -> Option<usize>
-    ensures { result ≡ deeper_id depth after.now }
+/// The previous sibling of a node at a depth, among the nodes up to one before it.
+pub(crate) fn previous_before(chain: &Chain, previous: Option<usize>, depth: usize) -> Option<usize>
+    requires chain { IsChainOf chain.now (entries_of chain.now) }
+    requires there { previous ≡ last_id None (up_to previous (entries_of chain.now)) }
+    ensures { result ≡ kept (previous_step depth) None (up_to previous (entries_of chain.now)) }
 {
-    match after.first() {
-        Some(first) => (depth < first.depth).then_some(first.id),
-        None => None,
+    let mut before = previous;
+    while let Some(id) = before {
+        let Some(slot) = slot_of(chain, id) else {
+            return None;
+        };
+        if slot.depth <= depth {
+            return (slot.depth == depth).then_some(id);
+        }
+        before = slot.previous;
     }
+    None
 }

@@ -2,21 +2,30 @@
 
 ghost use Rattle.std.specs.Prelude.{◌≡◌, find};
 ghost use Rattle.std.specs.List.{list_any};
+ghost use Rattle.dom_forest.specs.Chain.{IsChainOf, entries_of};
 ghost use Rattle.dom_forest.specs.Ids.{gives_id, has_id};
 ghost use Rattle.dom_forest.specs.Runs.{entry_id};
 
-use crate::entry::Entry;
+use crate::chain::{Chain, slot_of};
 use crate::node::NewNode;
 use fizz_text::Attr;
 
-/// The id of the first entry that has the attribute.
-pub(crate) fn first_with(entries: &[Entry], id: &[u8]) -> Option<usize>
-    ensures { result ≡ entry_id (find (λ e. has_id id.now e.node) entries.now) }
+/// The id of the first node that has the attribute.
+pub(crate) fn first_with(chain: &Chain, id: &[u8]) -> Option<usize>
+    requires { IsChainOf chain.now (entries_of chain.now) }
+    ensures { result ≡ entry_id (find (λ e. has_id id.now e.node) (entries_of chain.now)) }
 {
-    match entries.iter().find(|entry| is_named(&entry.node, id)) {
-        Some(entry) => Some(entry.id),
-        None => None,
+    let mut next = chain.first;
+    while let Some(now) = next {
+        let Some(slot) = slot_of(chain, now) else {
+            return None;
+        };
+        if is_named(&slot.node, id) {
+            return Some(now);
+        }
+        next = slot.next;
     }
+    None
 }
 
 fn is_named(node: &NewNode, id: &[u8]) -> bool

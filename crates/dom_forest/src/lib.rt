@@ -3,6 +3,7 @@
 #![tactic(auto)]
 
 mod boundary;
+mod chain;
 mod digest;
 mod document;
 mod dom;

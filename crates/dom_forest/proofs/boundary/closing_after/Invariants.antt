@@ -1,8 +1,13 @@
-use Rattle.std.proofs.Common.{◌≡◌, ◌≤◌, drop}
+use Rattle.std.proofs.Common.{◌≡◌, ◌+◌, ◌≤◌, length}
+use Rattle.dom_forest.specs.Chain.{entries_of, rest_from}
 use Rattle.dom_forest.specs.Runs.{closing_in}
 use Rattle.dom_forest.proofs.boundary.closing_after.Given as goal
 
 -- the entries that are left give the answer; no more boundaries are open than entries were passed
-abbrev pub invariant-loop-entry : goal.invariant-loop-entry
-invariant-loop-entry l =
-    (closing_in l.depth (drop l.entry-index l.after) l.inner ≡ closing_in l.depth l.after 0) × (l.inner ≤ l.entry-index)
+abbrev pub invariant-loop-next : goal.invariant-loop-next
+invariant-loop-next l =
+    (closing_in l.depth (rest_from l.next (entries_of l.chain)) l.inner ≡ closing_in l.depth (rest_from l.fn.after (entries_of l.chain)) 0)
+    × (l.inner + length (rest_from l.next (entries_of l.chain)) ≤ length (entries_of l.chain))
+
+abbrev pub decreases-loop-next : goal.decreases-loop-next
+decreases-loop-next l = length (rest_from l.next (entries_of l.chain))

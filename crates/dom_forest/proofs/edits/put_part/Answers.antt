@@ -1,61 +1,92 @@
-use Rattle.std.proofs.Common.{◌≡◌, ◌+◌, ◌-◌, length, arith, ap, map, refl}
-use Rattle.dom_forest.specs.Flat.{shifted}
-use Rattle.std.proofs.lemmas.List.{length-map}
-use Rattle.dom_forest.proofs.Renumbering.{length-renumbered_entries}
-use Rattle.dom_forest.proofs.Parts.{spanned, spanned_rest, put_document, put_forest, put_shifts}
-use Rattle.dom_forest.proofs.Spines.{spine-shorter, spine-with}
+use Rattle.std.proofs.Common.{◌≡◌, ◌+◌, [], None, length, refl, sym, ap, ◌∙◌, subst, arith}
+use Rattle.std.proofs.lemmas.List.{append-nil, length-append}
+use Rattle.dom_forest.specs.Chain.{IsChainOf, entries_of, head_id}
+use Rattle.dom_forest.specs.Flat.{forest_of}
+use Rattle.dom_forest.proofs.Held.{put_after, put_fits, put_held, put_spine}
+use Rattle.dom_forest.proofs.Flattening.{length-flat}
+use Rattle.dom_forest.proofs.Parts.{spanned}
 use Rattle.dom_forest.proofs.edits.put_part.Goals as goal
 
-pub relabel-requires-clause-depths : goal.relabel-requires-clause-depths
-relabel-requires-clause-depths c =
-    let old = c.args.entries.now.items in
-    let s = c.args.span in
-    let first = length c.args.places.now.items - c.args.part.len in
-    let x = spanned old s.at s.end s.depth c.args.id first c.requires.document c.requires.span in
-    put_shifts old s.at s.end s.depth c.args.id first c.args.part.items c.requires.document x c.requires.part
-    (omega (arith, x.deep, c.requires.within, c.args.part.small, c.args.part.ok.0, c.args.part.ok.1, c.args.entries.now.small, c.args.entries.now.ok.0, c.args.entries.now.ok.1))
-
-pub put_in-requires-clause-room : goal.put_in-requires-clause-room
-put_in-requires-clause-room c =
-    let moved = map (shifted 0 c.args.span.depth) c.args.part.items in
-    omega (
-      arith,
-      c.requires.room,
-      ap length c.relabel.ensures,
-      length-renumbered_entries (c.len.result - c.len-2.result) moved,
-      length-map c.args.part.items (shifted 0 c.args.span.depth),
-      c.args.part.ok.0,
-      c.relabel.new.entries.ok.0,
-    )
-
-pub returns-clause-document : goal.returns-clause-document
-returns-clause-document c =
-    let old = c.args.entries.now.items in
-    let s = c.args.span in
-    let first = length c.args.places.now.items - c.args.part.len in
-    let x = spanned old s.at s.end s.depth c.args.id first c.requires.document c.requires.span in
-    let first_is : c.len.result - c.len-2.result ≡ first = omega (arith, c.len.ensures, c.len-2.ensures, c.args.places.now.ok.0) in
-    let next_is : length c.note_places.new.places.items ≡ first + length c.args.part.items = omega (arith, c.note_places.ensures, c.requires.ids, c.args.part.ok.0) in
-    rw (c.put_in.ensures, c.relabel.ensures, first_is)
-    (put_document old s.at s.end s.depth c.args.id first c.args.part.items c.requires.document x c.requires.part (length c.note_places.new.places.items) next_is)
+pub returns-clause-held : goal.returns-clause-held
+returns-clause-held c =
+    let old = c.args.chain.now in
+    let es = entries_of old in
+    let next = length old.slots.items in
+    let doc = c.requires.held.document in
+    let size = c.requires.span.0 in
+    let place = c.requires.span.1.0 in
+    let x = spanned es place (place + size) c.args.depth c.args.id next doc c.requires.span.1.1 in
+    let part = c.args.part.now in
+    let its = c.requires.part.document.whole in
+    let run = entries_of part in
+    let fits = put_fits es place size c.args.depth c.args.id next doc x run its
+    (omega (arith, x.deep, x.place, ap length x.whole, length-append x.front (put_after es place size c.args.depth c.args.id next doc x run its), c.requires.held.links.within, c.requires.many, c.requires.room, old.slots.small, old.slots.ok.0, old.slots.ok.1)) in
+    let both = c.move_run.ensures.chain [] run [] (subst (IsChainOf part) (sym (append-nil run)) c.requires.part.links)
+    (c.requires.part.links.head ∙ ap (λ l. head_id l None) (sym (append-nil run))) (sym c.requires.many) fits
+    x.front (put_after es place size c.args.depth c.args.id next doc x run its) (subst (IsChainOf old) x.whole c.requires.held.links) refl in
+    let longer : length c.move_run.new.chain.slots.items ≡ next + length run = omega (arith, both.1, c.requires.many) in
+    let held = put_held es place size c.args.depth c.args.id next doc x run its c.move_run.new.chain longer both.0 in
+    held.held
 
 pub returns-clause-forest : goal.returns-clause-forest
 returns-clause-forest c =
-    let old = c.args.entries.now.items in
-    let s = c.args.span in
-    let first = length c.args.places.now.items - c.args.part.len in
-    let x = spanned old s.at s.end s.depth c.args.id first c.requires.document c.requires.span in
-    let first_is : c.len.result - c.len-2.result ≡ first = omega (arith, c.len.ensures, c.len-2.ensures, c.args.places.now.ok.0) in
-    rw (c.put_in.ensures, c.relabel.ensures, first_is)
-    (put_forest old s.at s.end s.depth c.args.id first c.args.part.items c.requires.document x c.requires.part)
+    let old = c.args.chain.now in
+    let es = entries_of old in
+    let next = length old.slots.items in
+    let doc = c.requires.held.document in
+    let size = c.requires.span.0 in
+    let place = c.requires.span.1.0 in
+    let x = spanned es place (place + size) c.args.depth c.args.id next doc c.requires.span.1.1 in
+    let part = c.args.part.now in
+    let its = c.requires.part.document.whole in
+    let run = entries_of part in
+    let fits = put_fits es place size c.args.depth c.args.id next doc x run its
+    (omega (arith, x.deep, x.place, ap length x.whole, length-append x.front (put_after es place size c.args.depth c.args.id next doc x run its), c.requires.held.links.within, c.requires.many, c.requires.room, old.slots.small, old.slots.ok.0, old.slots.ok.1)) in
+    let both = c.move_run.ensures.chain [] run [] (subst (IsChainOf part) (sym (append-nil run)) c.requires.part.links)
+    (c.requires.part.links.head ∙ ap (λ l. head_id l None) (sym (append-nil run))) (sym c.requires.many) fits
+    x.front (put_after es place size c.args.depth c.args.id next doc x run its) (subst (IsChainOf old) x.whole c.requires.held.links) refl in
+    let longer : length c.move_run.new.chain.slots.items ≡ next + length run = omega (arith, both.1, c.requires.many) in
+    let held = put_held es place size c.args.depth c.args.id next doc x run its c.move_run.new.chain longer both.0 in
+    held.forest_is
+
+pub returns-clause-next : goal.returns-clause-next
+returns-clause-next c =
+    let old = c.args.chain.now in
+    let es = entries_of old in
+    let next = length old.slots.items in
+    let doc = c.requires.held.document in
+    let size = c.requires.span.0 in
+    let place = c.requires.span.1.0 in
+    let x = spanned es place (place + size) c.args.depth c.args.id next doc c.requires.span.1.1 in
+    let part = c.args.part.now in
+    let its = c.requires.part.document.whole in
+    let run = entries_of part in
+    let fits = put_fits es place size c.args.depth c.args.id next doc x run its
+    (omega (arith, x.deep, x.place, ap length x.whole, length-append x.front (put_after es place size c.args.depth c.args.id next doc x run its), c.requires.held.links.within, c.requires.many, c.requires.room, old.slots.small, old.slots.ok.0, old.slots.ok.1)) in
+    let both = c.move_run.ensures.chain [] run [] (subst (IsChainOf part) (sym (append-nil run)) c.requires.part.links)
+    (c.requires.part.links.head ∙ ap (λ l. head_id l None) (sym (append-nil run))) (sym c.requires.many) fits
+    x.front (put_after es place size c.args.depth c.args.id next doc x run its) (subst (IsChainOf old) x.whole c.requires.held.links) refl in
+    let longer : length c.move_run.new.chain.slots.items ≡ next + length run = omega (arith, both.1, c.requires.many) in
+    let held = put_held es place size c.args.depth c.args.id next doc x run its c.move_run.new.chain longer both.0 in
+    omega (arith, longer, ap length its, length-flat 0 (forest_of run) [])
 
 pub returns-clause-spine : goal.returns-clause-spine
 returns-clause-spine c =
-    let old = c.args.entries.now.items in
-    let s = c.args.span in
-    let first = length c.args.places.now.items - c.args.part.len in
-    let x = spanned old s.at s.end s.depth c.args.id first c.requires.document c.requires.span in
-    rw (c.put_in.ensures, c.relabel.ensures)
-    (spine-with old s.at s.depth (c.len.result - c.len-2.result) c.args.part.items _ _ c.shorten.new.spine.items (omega (arith, c.requires.within, c.args.entries.now.ok.0))
-    (spanned_rest old s.at s.end s.depth c.args.id x) refl
-    (spine-shorter old s.at c.args.spine.now.items c.shorten.new.spine.items c.shorten.ensures c.requires.spine))
+    let old = c.args.chain.now in
+    let es = entries_of old in
+    let next = length old.slots.items in
+    let doc = c.requires.held.document in
+    let size = c.requires.span.0 in
+    let place = c.requires.span.1.0 in
+    let x = spanned es place (place + size) c.args.depth c.args.id next doc c.requires.span.1.1 in
+    let part = c.args.part.now in
+    let its = c.requires.part.document.whole in
+    let run = entries_of part in
+    let fits = put_fits es place size c.args.depth c.args.id next doc x run its
+    (omega (arith, x.deep, x.place, ap length x.whole, length-append x.front (put_after es place size c.args.depth c.args.id next doc x run its), c.requires.held.links.within, c.requires.many, c.requires.room, old.slots.small, old.slots.ok.0, old.slots.ok.1)) in
+    let both = c.move_run.ensures.chain [] run [] (subst (IsChainOf part) (sym (append-nil run)) c.requires.part.links)
+    (c.requires.part.links.head ∙ ap (λ l. head_id l None) (sym (append-nil run))) (sym c.requires.many) fits
+    x.front (put_after es place size c.args.depth c.args.id next doc x run its) (subst (IsChainOf old) x.whole c.requires.held.links) refl in
+    let longer : length c.move_run.new.chain.slots.items ≡ next + length run = omega (arith, both.1, c.requires.many) in
+    let held = put_held es place size c.args.depth c.args.id next doc x run its c.move_run.new.chain longer both.0 in
+    λ spine s. put_spine es place size c.args.depth c.args.id next doc x run its c.move_run.new.chain longer held.entries_is spine s

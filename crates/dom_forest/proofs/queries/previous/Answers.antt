@@ -1,16 +1,20 @@
-use Rattle.std.proofs.Common.{length, None, sym, ◌∙◌}
+use Rattle.std.proofs.Common.{length, None, refl, sym, ◌∙◌}
+use Rattle.dom_forest.specs.Chain.{entries_of, entry_in, rest_from, up_to}
 use Rattle.dom_forest.specs.Flat.{forest_of}
 use Rattle.dom_forest.proofs.Focus.{absent}
-use Rattle.dom_forest.proofs.Located.{known}
+use Rattle.dom_forest.proofs.Located.{known, none_there}
 use Rattle.dom_forest.proofs.queries.previous.Goals as goal
 
 pub returns-in-Some : goal.returns-in-Some
 returns-in-Some c =
-    let cut = c.in-Some.cut in
-    let x = known c.args.entries.now cut.before.now cut.after.now cut.entry.now c.args.id (length c.args.places.now) c.requires c.in-Some.ensures.whole c.in-Some.ensures.node in
+    let es = entries_of c.args.chain.now in
+    let slot = c.in-Some.slot.now in
+    let e = entry_in c.args.id slot in
+    let x = known es (up_to slot.previous es) (rest_from slot.next es) e c.args.id (length c.args.chain.now.slots.items) c.requires.document c.in-Some.ensures.found.whole refl in
     c.previous_before.ensures ∙ sym x.previous
 
 pub returns-in-None : goal.returns-in-None
 returns-in-None c =
-    let x = absent c.args.id (forest_of c.args.entries.now) c.in-None.ensures.absent in
+    let es = entries_of c.args.chain.now in
+    let x = absent c.args.id (forest_of es) (none_there c.args.id es (length c.args.chain.now.slots.items) c.requires.document c.in-None.ensures.absent) in
     sym (x.previous None)

@@ -6,6 +6,5 @@ use Rattle.dom_forest.proofs.dom.Dom.remove.Goals as goal
 
 pub returns-in_default-clause-rest : goal.returns-in_default-clause-rest
 returns-in_default-clause-rest c =
-    let none = rw c.deref.ensures.value at c.in_default.ensures.absent in
     unchanged c.args.node.0 c.args.self.now (λ content kids later. later)
-    (subst (λ (d : Numbered). times c.args.node.0 d.forest ≡ 0) c.self.view_is none)
+    (subst (λ (d : Numbered). times c.args.node.0 d.forest ≡ 0) c.self.view_is c.in_default.ensures.absent)
