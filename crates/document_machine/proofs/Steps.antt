@@ -15,7 +15,7 @@ use Rattle.document_machine.specs.Documents.{Step, starts, ends, stands, says, m
 use Rattle.document_machine.specs.Faults.{Refuses, closes_nothing, closes_another, opens_too_many, says_nothing, calls_unknown, misses, finds_no_boundary}
 use Rattle.document_machine.specs.Holding.{IsStepCause}
 use Rattle.document_machine.specs.Paths.{IsOpenDocument}
-use Rattle.document_machine.specs.Running.{Building, ids_of, innermost, mark_of}
+use Rattle.document_machine.specs.Running.{Building, ids_of, innermost, mark_of, with_node}
 use Rattle.document_machine.specs.Taking.{Closes, Follows, IsCloseRefusal, IsOpenRefusal, IsScriptRefusal, is_innermost}
 use Rattle.document_machine.proofs.OpenPaths.{document_closed}
 
@@ -93,20 +93,20 @@ close_cause prefix b name from (NoSuchId at id) h = absurd h
 close_cause prefix b name from (NotBoundary at) h = absurd h
 close_cause prefix b name from OutOfMemory h = absurd h
 
-pub void_step : (prefix : List ℕ) (dom new : Numbered) (opened : List OpenElement) (known : Sent) (name : List ℕ) (attributes : List Attr) (from : ℕ)
-    → new ≡ appended (innermost opened) (Element name attributes) dom → Step prefix (built dom opened known) (tok.Void name attributes from) (built new opened known)
-void_step prefix dom new opened known name attributes from e =
-    subst (λ d. Step prefix (built dom opened known) (tok.Void name attributes from) (built d opened known)) (sym e) (stands (built dom opened known) name attributes from)
+pub void_step : (prefix : List ℕ) (b new : Building) (t : Tok) (name : List ℕ) (attributes : List Attr) (from : ℕ)
+    → t ≡ tok.Void name attributes from → new ≡ with_node (Element name attributes) b → Step prefix b t new
+void_step prefix b new t name attributes from e f =
+    subst (λ x. Step prefix b x new) (sym e) (subst (λ x. Step prefix b (tok.Void name attributes from) x) (sym f) (stands b name attributes from))
 
-pub text_step : (prefix : List ℕ) (dom new : Numbered) (opened : List OpenElement) (known : Sent) (text : List ℕ) (from : ℕ)
-    → new ≡ appended (innermost opened) (Text text) dom → Step prefix (built dom opened known) (tok.Text text from) (built new opened known)
-text_step prefix dom new opened known text from e =
-    subst (λ d. Step prefix (built dom opened known) (tok.Text text from) (built d opened known)) (sym e) (says (built dom opened known) text from)
+pub text_step : (prefix : List ℕ) (b new : Building) (t : Tok) (text : List ℕ) (from : ℕ)
+    → t ≡ tok.Text text from → new ≡ with_node (Text text) b → Step prefix b t new
+text_step prefix b new t text from e f =
+    subst (λ x. Step prefix b x new) (sym e) (subst (λ x. Step prefix b (tok.Text text from) x) (sym f) (says b text from))
 
-pub comment_step : (prefix : List ℕ) (dom new : Numbered) (opened : List OpenElement) (known : Sent) (which : Said) (from : ℕ)
-    → new ≡ appended (innermost opened) (Comment (mark_of which)) dom → Step prefix (built dom opened known) (tok.Comment which from) (built new opened known)
-comment_step prefix dom new opened known which from e =
-    subst (λ d. Step prefix (built dom opened known) (tok.Comment which from) (built d opened known)) (sym e) (marks (built dom opened known) which from)
+pub comment_step : (prefix : List ℕ) (b new : Building) (t : Tok) (which : Said) (from : ℕ)
+    → t ≡ tok.Comment which from → new ≡ with_node (Comment (mark_of which)) b → Step prefix b t new
+comment_step prefix b new t which from e f =
+    subst (λ x. Step prefix b x new) (sym e) (subst (λ x. Step prefix b (tok.Comment which from) x) (sym f) (marks b which from))
 
 pub script_step : (prefix : List ℕ) (dom new : Numbered) (opened slice : List OpenElement) (known learned : Sent) (body read : List ℕ) (from : ℕ)
     → slice ≡ opened → read ≡ body → Follows prefix read (ids_of (reverse slice)) dom known new learned

@@ -9,7 +9,7 @@ ghost use Rattle.fizz_instructions.specs.Sending.{with_function};
 ghost use Rattle.document_machine.specs.Documents.{Step, most_open};
 ghost use Rattle.document_machine.specs.Holding.{IsStepCause};
 ghost use Rattle.document_machine.specs.Paths.{IsOpenDocument};
-ghost use Rattle.document_machine.specs.Running.{at_first, ids_of, innermost, mark_of};
+ghost use Rattle.document_machine.specs.Running.{at_first, ids_of, innermost, mark_of, with_node};
 ghost use Rattle.document_machine.specs.Taking.{Closes, Follows, IsCloseRefusal, IsOpenRefusal, IsScriptRefusal, is_innermost};
 ghost use Rattle.document_machine.specs.declared.fault.MachineFault.TheVariants.{OutOfMemory as Memory};
 
@@ -86,6 +86,16 @@ impl Page {
         innermost(&self.opened)
     }
 
+    /// Adds a node at the end of the innermost open element.
+    fn add(&mut self, node: NewNode) -> Result<(), MachineFault>
+        requires { IsOpenDocument (ids_of self.old.opened) self.old.dom }
+        ensures added { OnOk result (self.new ≡ with_node node self.old) }
+        ensures refused { IfErr result (λ e. e ≡ Memory) }
+        ensures document { OnOk result (IsOpenDocument (ids_of self.new.opened) self.new.dom) }
+    {
+        add(&mut self.dom, &self.opened, node)
+    }
+
     /// Follows a token.
     pub(crate) fn take(
         &mut self,
@@ -116,19 +126,9 @@ impl Page {
                 name,
                 attributes,
                 ..
-            } => add(
-                &mut self.dom,
-                &self.opened,
-                NewNode::Element { name, attributes },
-            ),
-            Tok::Text { text, .. } => add(&mut self.dom, &self.opened, NewNode::Text(text)),
-            Tok::Comment { which, .. } => {
-                add(
-                    &mut self.dom,
-                    &self.opened,
-                    NewNode::Comment(mark_of(which)),
-                )
-            }
+            } => self.add(NewNode::Element { name, attributes }),
+            Tok::Text { text, .. } => self.add(NewNode::Text(text)),
+            Tok::Comment { which, .. } => self.add(NewNode::Comment(mark_of(which))),
             Tok::Script { body, from } => {
                 run(
                     alloc,
