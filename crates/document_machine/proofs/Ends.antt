@@ -4,19 +4,19 @@ use Rattle.std.proofs.Common.{length-append}
 use Rattle.std.proofs.lemmas.List.{append-nil, nil_from_length}
 use Rattle.std.proofs.lemmas.Bool.{ltb-false}
 use Rattle.html_names.specs.Escape.{escaped, spelling_of}
-use Rattle.html_read.specs.declared.token.Tok.{Tok}
-use Rattle.html_read.specs.declared.token.Tok.TheVariants as tok
+use Rattle.html_read.specs.declared.token.Token.{Token}
+use Rattle.html_read.specs.declared.token.Token.TheVariants as tok
 use Rattle.html_read.specs.Tokens.{IsTok, is_text, spelling, spellings}
-use Rattle.html_read.specs.Reading.{Held, HasRead, IsOpenText, IsTextSoFar, IsUnfinished}
+use Rattle.html_read.specs.Reading.{ReaderState, HasRead, IsOpenText, IsTextSoFar, IsUnfinished}
 use Rattle.dom_forest.specs.declared.node.NewNode.TheVariants.{Text}
 use Rattle.document_machine.specs.declared.building.OpenElement.{OpenElement}
 use Rattle.document_machine.specs.Documents.{Runs, Step, Steps, says}
 use Rattle.document_machine.specs.Faults.{EndsEarly, IsEndingAt}
-use Rattle.document_machine.specs.Running.{Building, at_first, with_node}
+use Rattle.document_machine.specs.Running.{PageState, at_first, with_node}
 use Rattle.document_machine.specs.declared.fault.MachineFault.{MachineFault}
 use Rattle.document_machine.specs.declared.fault.MachineFault.TheVariants.{Html, UnknownFunction, NoSuchId, NotBoundary, OutOfMemory}
 use Rattle.document_machine.specs.declared.view.View.{View as Seen}
-use Rattle.document_machine.specs.Holding.{FinishRefusal, HasRun, Holding, Sees, SeesWhole}
+use Rattle.document_machine.specs.MachineState.{FinishRefusal, HasRun, MachineState, Sees, SeesWhole}
 use Rattle.document_machine.specs.Ready.{GoesWell, IsReady}
 use Rattle.document_machine.specs.Shown.{seen}
 use Rattle.document_machine.specs.Views.{view_of}
@@ -26,7 +26,7 @@ use Rattle.document_machine.proofs.Following.{steps_push}
 Some≢nil : (x : ℕ) (xs : List ℕ) → x ∷ xs ≢ []
 Some≢nil x xs e = cc
 
-some_tok : (t : Tok) (ts : List Tok) → ◌≢◌ {A = List Tok} (t ∷ ts) []
+some_tok : (t : Token) (ts : List Token) → ◌≢◌ {A = List Token} (t ∷ ts) []
 some_tok t ts e = cc
 
 pick : (c : Bool) (xs ys : List ℕ) → xs ≢ [] → ys ≢ [] → (if c then xs else ys) ≢ []
@@ -46,7 +46,7 @@ escaped_some [] h = absurd (h refl)
 escaped_some (b ∷ text) h = front_some (spelling_of b) (escaped text) (spelled_some b)
 
 -- A text has bytes.
-text_some : (t : Tok) → IsTok t → is_text t ≡ true → spelling t ≢ []
+text_some : (t : Token) → IsTok t → is_text t ≡ true → spelling t ≢ []
 text_some (tok.Start name attributes from) is e = absurd (true≢false (sym e))
 text_some (tok.End name from) is e = absurd (true≢false (sym e))
 text_some (tok.Void name attributes from) is e = absurd (true≢false (sym e))
@@ -55,7 +55,7 @@ text_some (tok.Comment which from) is e = absurd (true≢false (sym e))
 text_some (tok.Script body from) is e = absurd (true≢false (sym e))
 
 -- The page ends with its last token, or with an open text.
-pub ends_whole : (prefix bytes : List ℕ) (reader : Held) (built : Building) → reader.rest ≡ [] → Went prefix bytes reader built → RunsToEnd prefix bytes built
+pub ends_whole : (prefix bytes : List ℕ) (reader : ReaderState) (built : PageState) → reader.rest ≡ [] → Went prefix bytes reader built → RunsToEnd prefix bytes built
 ends_whole prefix bytes reader built none w = record {
   run = record {
     toks = w.toks;
@@ -68,7 +68,7 @@ ends_whole prefix bytes reader built none w = record {
   no_rest = λ _. none;
 }
 
-pub ends_text : (prefix bytes : List ℕ) (reader : Held) (built end : Building) (t : Tok) → IsOpenText reader t → Step prefix built t end
+pub ends_text : (prefix bytes : List ℕ) (reader : ReaderState) (built end : PageState) (t : Token) → IsOpenText reader t → Step prefix built t end
     → Went prefix bytes reader built → RunsToEnd prefix bytes end
 ends_text prefix bytes reader built end t o s w = record {
   run = record {
@@ -82,7 +82,7 @@ ends_text prefix bytes reader built end t o s w = record {
   no_rest = λ e. absurd (some_tok t [] e);
 }
 
-pub ends_torn : (prefix bytes : List ℕ) (reader : Held) (built : Building) (at : ℕ) → IsUnfinished reader at → Went prefix bytes reader built
+pub ends_torn : (prefix bytes : List ℕ) (reader : ReaderState) (built : PageState) (at : ℕ) → IsUnfinished reader at → Went prefix bytes reader built
     → LeavesRest prefix bytes at
 ends_torn prefix bytes reader built at u w = record {
   built = built;
@@ -100,7 +100,7 @@ ends_torn prefix bytes reader built at u w = record {
 }
 
 -- A rest is where the page ends early.
-torn_early : (prefix bytes : List ℕ) (at : ℕ) (built : Building) (run : Runs prefix at_first bytes built) (rest : List ℕ) (last : List Tok)
+torn_early : (prefix bytes : List ℕ) (at : ℕ) (built : PageState) (run : Runs prefix at_first bytes built) (rest : List ℕ) (last : List Token)
     → run.rest ≡ rest → run.last ≡ last → last ≡ [] → rest ≢ [] → at + length rest ≡ length bytes → IsEndingAt rest last built.opened (length bytes) at
 torn_early prefix bytes at built run [] last r l none some p = absurd (some refl)
 torn_early prefix bytes at built run (b ∷ rest) [] r l none some p = p
@@ -119,12 +119,12 @@ leaves_early prefix bytes at h = record {
 }
 
 -- So is the end of the bytes where an element is open.
-open_early : (rest : List ℕ) (last : List Tok) (opened : List OpenElement) (size at : ℕ) → (last ≡ [] → rest ≡ []) → opened ≢ [] → at ≡ size → IsEndingAt rest last opened size at
+open_early : (rest : List ℕ) (last : List Token) (opened : List OpenElement) (size at : ℕ) → (last ≡ [] → rest ≡ []) → opened ≢ [] → at ≡ size → IsEndingAt rest last opened size at
 open_early [] last opened size at whole some is = (some, is)
 open_early (b ∷ rest) [] opened size at whole some is = absurd (Some≢nil b rest (whole refl))
 open_early (b ∷ rest) (t ∷ last) opened size at whole some is = (some, is)
 
-pub ends_open : (prefix bytes : List ℕ) (built : Building) (at : ℕ) → RunsToEnd prefix bytes built → built.opened ≢ [] → at ≡ length bytes
+pub ends_open : (prefix bytes : List ℕ) (built : PageState) (at : ℕ) → RunsToEnd prefix bytes built → built.opened ≢ [] → at ≡ length bytes
     → EndsEarly prefix at_first bytes at
 ends_open prefix bytes built at h some is = record {
   toks = h.run.toks;
@@ -138,11 +138,11 @@ ends_open prefix bytes built at h some is = record {
 }
 
 -- How many bytes a reader was fed.
-pub fed_length : (bytes : List ℕ) (toks : List Tok) (reader : Held) → HasRead bytes toks reader → reader.place + length reader.rest ≡ length bytes
+pub fed_length : (bytes : List ℕ) (toks : List Token) (reader : ReaderState) → HasRead bytes toks reader → reader.place + length reader.rest ≡ length bytes
 fed_length bytes toks reader r = omega (arith, r.place_is, ap length r.split.whole, length-append (spellings toks) reader.rest)
 
 -- The text so far, at its place.
-text_here : (reader : Held) (t : Tok) → reader.fault ≡ None → IsTok t → is_text t ≡ true → reader.rest ≡ spelling t → IsTextSoFar reader None → ⊥
+text_here : (reader : ReaderState) (t : Token) → reader.fault ≡ None → IsTok t → is_text t ≡ true → reader.rest ≡ spelling t → IsTextSoFar reader None → ⊥
 text_here reader (tok.Start name attributes from) f is e r n = absurd (true≢false (sym e))
 text_here reader (tok.End name from) f is e r n = absurd (true≢false (sym e))
 text_here reader (tok.Void name attributes from) f is e r n = absurd (true≢false (sym e))
@@ -151,7 +151,7 @@ text_here reader (tok.Text text from) f is e r n =
 text_here reader (tok.Comment which from) f is e r n = absurd (true≢false (sym e))
 text_here reader (tok.Script body from) f is e r n = absurd (true≢false (sym e))
 
-pub run_so_far : (prefix bytes : List ℕ) (reader : Held) (built : Building) → IsTextSoFar reader None → Went prefix bytes reader built → Runs prefix at_first bytes built
+pub run_so_far : (prefix bytes : List ℕ) (reader : ReaderState) (built : PageState) → IsTextSoFar reader None → Went prefix bytes reader built → Runs prefix at_first bytes built
 run_so_far prefix bytes reader built none w = record {
   toks = w.toks;
   rest = reader.rest;
@@ -161,16 +161,16 @@ run_so_far prefix bytes reader built none w = record {
   steps = subst (λ ts. Steps prefix at_first ts built) (sym (append-nil w.toks)) w.steps;
 }
 
-pub run_with_text : (prefix bytes : List ℕ) (reader : Held) (built : Building) (text : List ℕ) (from : ℕ) → IsOpenText reader (tok.Text text from)
+pub run_with_text : (prefix bytes : List ℕ) (reader : ReaderState) (built : PageState) (text : List ℕ) (from : ℕ) → IsOpenText reader (tok.Text text from)
     → Went prefix bytes reader built → Runs prefix at_first bytes (with_node (Text text) built)
 run_with_text prefix bytes reader built text from o w =
     (ends_text prefix bytes reader built (with_node (Text text) built) (tok.Text text from) o (says built text from) w).run
 
 -- An open text is a text.
-pub no_other_text : (reader : Held) (t : Tok) → is_text t ≡ false → IsOpenText reader t → ⊥
+pub no_other_text : (reader : ReaderState) (t : Token) → is_text t ≡ false → IsOpenText reader t → ⊥
 no_other_text reader t e o = true≢false (sym o.text ∙ e)
 
-went : (bytes : List ℕ) (m : Holding) → HasRun bytes m → Went m.prefix bytes m.reader m.built
+went : (bytes : List ℕ) (m : MachineState) → HasRun bytes m → Went m.prefix bytes m.reader m.built
 went bytes m h = record { toks = h.toks; read = h.read; steps = h.steps }
 
 pub if_ok : {A E : Type 0} (result : Result A E) (P Q : A → Type 0) → ((v : A) → P v → Q v) → IfOk result P → IfOk result Q
@@ -179,34 +179,34 @@ if_ok (Err e) P Q f p = tt
 
 -- A machine that goes on, as it is seen from outside.
 
-pub sees : (inside self : Holding) (view : Seen) → inside ≡ self → IsTextNow inside.reader None → seen view.items ≡ view_of inside.prefix inside.built.dom.forest
+pub sees : (inside self : MachineState) (view : Seen) → inside ≡ self → IsTextNow inside.reader None → seen view.items ≡ view_of inside.prefix inside.built.dom.forest
     → (bytes : List ℕ) → HasRun bytes self → Sees self bytes view
 sees inside self view e none v bytes h =
     let k = subst (HasRun bytes) (sym e) h in
     subst (λ m. Sees m bytes view) e (record { built = inside.built; run = run_so_far inside.prefix bytes inside.reader inside.built none (went bytes inside k); is = v })
 
-pub sees_text : (inside self : Holding) (view : Seen) (text : List ℕ) → inside ≡ self → IsTextNow inside.reader (Some text)
+pub sees_text : (inside self : MachineState) (view : Seen) (text : List ℕ) → inside ≡ self → IsTextNow inside.reader (Some text)
     → seen view.items ≡ view_of inside.prefix (with_node (Text text) inside.built).dom.forest → (bytes : List ℕ) → HasRun bytes self → Sees self bytes view
 sees_text inside self view text e o v bytes h =
     let k = subst (HasRun bytes) (sym e) h in
     subst (λ m. Sees m bytes view) e
     (record { built = with_node (Text text) inside.built; run = run_with_text inside.prefix bytes inside.reader inside.built text o.0 o.1 (went bytes inside k); is = v })
 
-end_cause : (m : Holding) (bytes : List ℕ) (fault : MachineFault) → IsEndCause m.prefix bytes fault → FinishRefusal m bytes fault
+end_cause : (m : MachineState) (bytes : List ℕ) (fault : MachineFault) → IsEndCause m.prefix bytes fault → FinishRefusal m bytes fault
 end_cause m bytes (Html at) h = leaves_early m.prefix bytes at h
 end_cause m bytes (UnknownFunction at) h = h
 end_cause m bytes (NoSuchId at id) h = h
 end_cause m bytes (NotBoundary at) h = h
 end_cause m bytes OutOfMemory h = tt
 
-pub end_refusal : (inside self : Holding) (fault : MachineFault) → inside ≡ self
+pub end_refusal : (inside self : MachineState) (fault : MachineFault) → inside ≡ self
     → ((bytes : List ℕ) → Went inside.prefix bytes inside.reader inside.built → IsEndCause inside.prefix bytes fault)
     → (bytes : List ℕ) → HasRun bytes self → FinishRefusal self bytes fault
 end_refusal inside self fault e cause bytes h =
     let k = subst (HasRun bytes) (sym e) h in
     subst (λ m. FinishRefusal m bytes fault) e (end_cause inside bytes fault (cause bytes (went bytes inside k)))
 
-ready_length : (m : Holding) (size : ℕ) (bytes : List ℕ) → IsReady m.reader size m.built m.stop → HasRun bytes m → size ≡ length bytes
+ready_length : (m : MachineState) (size : ℕ) (bytes : List ℕ) → IsReady m.reader size m.built m.stop → HasRun bytes m → size ≡ length bytes
 ready_length m size bytes r h =
     let g : GoesWell m.reader size m.built = subst (IsReady m.reader size m.built) h.goes_on r in
     g.counts ∙ fed_length bytes h.toks m.reader h.read
@@ -217,7 +217,7 @@ has_open opened h e = true≢false (sym h ∙ ap (λ (os : List OpenElement). na
 has_none : (opened : List OpenElement) → nat_lt 0 (length opened) ≡ false → opened ≡ []
 has_none opened h = nil_from_length opened (omega (arith, ltb-false 0 (length opened) h))
 
-pub open_refusal : (inside self : Holding) (size : ℕ) (new : Building) → inside ≡ self → IsReady inside.reader size inside.built inside.stop
+pub open_refusal : (inside self : MachineState) (size : ℕ) (new : PageState) → inside ≡ self → IsReady inside.reader size inside.built inside.stop
     → ((bytes : List ℕ) → Went inside.prefix bytes inside.reader inside.built → RunsToEnd inside.prefix bytes new) → nat_lt 0 (length new.opened) ≡ true
     → (bytes : List ℕ) → HasRun bytes self → EndsEarly self.prefix at_first bytes size
 open_refusal inside self size new e ready ended some bytes h =
@@ -225,7 +225,7 @@ open_refusal inside self size new e ready ended some bytes h =
     subst (λ m. EndsEarly m.prefix at_first bytes size) e
     (ends_open inside.prefix bytes new size (ended bytes (went bytes inside k)) (has_open new.opened some) (ready_length inside size bytes ready k))
 
-pub sees_whole : (inside self : Holding) (new : Building) (view : Seen) → inside ≡ self
+pub sees_whole : (inside self : MachineState) (new : PageState) (view : Seen) → inside ≡ self
     → ((bytes : List ℕ) → Went inside.prefix bytes inside.reader inside.built → RunsToEnd inside.prefix bytes new) → nat_lt 0 (length new.opened) ≡ false
     → seen view.items ≡ view_of inside.prefix new.dom.forest → (bytes : List ℕ) → HasRun bytes self → SeesWhole self bytes view
 sees_whole inside self new view e ended none v bytes h =

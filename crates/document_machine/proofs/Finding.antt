@@ -5,7 +5,7 @@ use Rattle.dom_forest.specs.declared.node.Mark.TheVariants.{Complete, Pending, C
 use Rattle.dom_forest.specs.declared.node.NewNode.{NewNode}
 use Rattle.dom_forest.specs.declared.node.NewNode.TheVariants.{Element, Text, Comment}
 use Rattle.dom_forest.specs.Forest.{Forest, empty, tree, times, or_else, or_id, from, first_content, first_tree, content_of, later_of, IsThere, IsElement, IsComment}
-use Rattle.dom_forest.specs.Edits.{Numbered, IsNumbered, changed, without}
+use Rattle.dom_forest.specs.Edits.{DomState, IsNumbered, changed, without}
 use Rattle.dom_forest.specs.Seen.{number}
 use Rattle.dom_forest.specs.declared.node.NodeId.{NodeId}
 use Rattle.std.specs.Prelude.{IfSome}
@@ -162,7 +162,7 @@ element_stays id mark node forest e c =
     e
 
 -- What is found by an id is an element.
-pub some_element : (id : List ℕ) (dom : Numbered) (found : Option NodeId) → IsNumbered dom → number found ≡ element_with id dom.forest
+pub some_element : (id : List ℕ) (dom : DomState) (found : Option NodeId) → IsNumbered dom → number found ≡ element_with id dom.forest
     → IfSome found (λ n. IsElement (content_of n.0 dom.forest))
 some_element id dom None d e = tt
 some_element id dom (Some node) d e = element_found id dom.forest node.0 (d.once node.0) (sym e)
@@ -172,7 +172,7 @@ nat_lt_once zero n h = sym (ap not (lt-ltb 0 n (omega arith)))
 nat_lt_once (suc m) n h = lt-ltb 0 (suc m) (omega arith) ∙ sym (ap not (le-ltb 0 n (omega arith)))
 
 -- What is there goes with a part, or it stays.
-pub inside_or_not : (id part : ℕ) (dom : Numbered) → IsNumbered dom → IsThere part dom.forest → IsThere id dom.forest
+pub inside_or_not : (id part : ℕ) (dom : DomState) → IsNumbered dom → IsThere part dom.forest → IsThere id dom.forest
     → nat_lt 0 (times id (first_tree (from part dom.forest))) ≡ not (nat_lt 0 (times id (without part dom).forest))
 inside_or_not id part dom d here there =
     let s = spot part dom.forest (omega (arith, d.once part)) in

@@ -1,13 +1,13 @@
 -- What the frames of a walk enclose.
 use Rattle.std.proofs.Common.{◌≡◌, ℕ, ◌+◌, ◌<◌, ◌≤◌, if◌then◌else◌, Bool, true, false, Option, Some, None, List, [], ◌∷◌, ◌++◌, refl, ap, ◌∙◌, sym, arith}
 use Rattle.fizz_text.specs.declared.attribute.Attr.{Attr}
-use Rattle.dom_forest.specs.Edits.{Numbered, IsNumbered}
+use Rattle.dom_forest.specs.Edits.{DomState, IsNumbered}
 use Rattle.dom_forest.specs.Forest.{Forest, empty, tree, content_of, count, first_content, first_id, first_kids, first_later, first_of, from, kids_of, later_of}
 use Rattle.dom_forest.specs.Seen.{number}
 use Rattle.dom_forest.specs.declared.node.NewNode.{NewNode}
 use Rattle.dom_forest.specs.declared.node.NewNode.TheVariants as node
 use Rattle.dom_forest.specs.declared.node.NodeId.{NodeId}
-use Rattle.document_machine.specs.declared.kind.Kind.{Kind}
+use Rattle.document_machine.specs.declared.status.BoundaryStatus.{BoundaryStatus}
 use Rattle.document_machine.specs.declared.view.Item.{Item}
 use Rattle.document_machine.specs.declared.view.Item.TheVariants as item
 use Rattle.document_machine.specs.declared.viewing.Frame.{Frame}
@@ -84,7 +84,7 @@ completed-stray prefix forest walk levels none =
     same_siblings prefix forest walk.frames (with_first (seen_before walk.items) levels) (with_first (seen_before walk.items) (ended levels)) none (stray walk.items levels.first levels.rest)
 
 -- A `/$` that ends the innermost boundary.
-pub completed-end : (prefix : List ℕ) (forest : Forest) (walk : Walk) (frames : List Frame) (kind : Kind) (digest : List ℕ) (before : List Item) (levels : Levels)
+pub completed-end : (prefix : List ℕ) (forest : Forest) (walk : Walk) (frames : List Frame) (kind : BoundaryStatus) (digest : List ℕ) (before : List Item) (levels : Levels)
     → walk.frames ≡ frames ++ Boundary kind digest before ∷ []
     → completed prefix forest (after_frame before (item.Boundary kind digest walk.items) (record walk { frames = frames })) levels ≡ completed prefix forest walk (ended levels)
 completed-end prefix forest walk frames kind digest before levels split =
@@ -93,8 +93,8 @@ completed-end prefix forest walk frames kind digest before levels split =
     ∙ ap (λ fs. siblings_of (all_enclosed prefix forest fs (with_first (seen_before walk.items) (ended levels)))) (sym split)
 
 -- From the first child on stand the children.
-pub nodes_from-first : (dom : Numbered) (parent : Option NodeId) (child : Option NodeId) → IsNumbered dom
-    → ((d : Numbered) → IsNumbered d → (above : Option NodeId) (node : ℕ) → first_of above d.forest ≡ Some node → from node d.forest ≡ kids_of above d.forest)
+pub nodes_from-first : (dom : DomState) (parent : Option NodeId) (child : Option NodeId) → IsNumbered dom
+    → ((d : DomState) → IsNumbered d → (above : Option NodeId) (node : ℕ) → first_of above d.forest ≡ Some node → from node d.forest ≡ kids_of above d.forest)
     → number child ≡ first_of parent dom.forest → nodes_from child dom.forest ≡ kids_of parent dom.forest
 nodes_from-first dom parent None numbered walk first = none_first (kids_of parent dom.forest) first
 nodes_from-first dom parent (Some child) numbered walk first = walk dom numbered parent child.0 (sym first)
@@ -104,7 +104,7 @@ ends_in_boundary-push [] frame = refl
 ends_in_boundary-push (first ∷ []) frame = refl
 ends_in_boundary-push (first ∷ (next ∷ rest)) frame = ends_in_boundary-push (next ∷ rest) frame
 
-no_boundary : (frame : Frame) → ((kind : Kind) (digest : List ℕ) (before : List Item) → frame ≡ Boundary kind digest before → ⊥) → is_boundary frame ≡ false
+no_boundary : (frame : Frame) → ((kind : BoundaryStatus) (digest : List ℕ) (before : List Item) → frame ≡ Boundary kind digest before → ⊥) → is_boundary frame ≡ false
 no_boundary (Element name attributes at_top later before) other = refl
 no_boundary (Boundary kind digest before) other = absurd (other kind digest before refl)
 
@@ -117,7 +117,7 @@ stray_outside prefix forest walk frames levels none same =
 
 -- A `/$` in an element where no boundary is open.
 pub stray_inside : (prefix : List ℕ) (forest : Forest) (walk : Walk) (frames rest : List Frame) (frame : Frame) (levels : Levels) → walk.frames ≡ rest ++ frame ∷ []
-    → ((kind : Kind) (digest : List ℕ) (before : List Item) → frame ≡ Boundary kind digest before → ⊥) → frames ≡ rest ++ frame ∷ []
+    → ((kind : BoundaryStatus) (digest : List ℕ) (before : List Item) → frame ≡ Boundary kind digest before → ⊥) → frames ≡ rest ++ frame ∷ []
     → completed prefix forest (record walk { frames = frames }) levels ≡ completed prefix forest walk (ended levels)
 stray_inside prefix forest walk frames rest frame levels split other same =
     ap (λ fs. completed prefix forest (record walk { frames = fs }) levels) (same ∙ sym split)
@@ -135,7 +135,7 @@ closes_element prefix forest walk items before name attributes at_top later fram
     ∙ ap (λ f. siblings_of (all_enclosed prefix forest walk.frames (enclosed prefix forest f (record { first = seen walk.items; rest = [] })))) (sym is)
 
 -- A boundary is closed where its siblings end.
-pub closes_boundary : (prefix : List ℕ) (forest : Forest) (walk after : Walk) (before : List Item) (kind : Kind) (digest : List ℕ) (frame : Frame)
+pub closes_boundary : (prefix : List ℕ) (forest : Forest) (walk after : Walk) (before : List Item) (kind : BoundaryStatus) (digest : List ℕ) (frame : Frame)
     → frame ≡ Boundary kind digest before → after ≡ after_frame before (item.Boundary kind digest walk.items) walk
     → completed_from prefix forest after None
     ≡ siblings_of (all_enclosed prefix forest walk.frames (enclosed prefix forest frame (record { first = seen walk.items; rest = [] })))
@@ -210,7 +210,7 @@ passes_text prefix forest walk items here later t content later_is is =
     ∙ ap (completed prefix forest walk) (sym (levels-text prefix walk.at_top (from here.0 forest) t content))
 
 -- A boundary is begun.
-pub opens_boundary : (prefix : List ℕ) (forest : Forest) (walk : Walk) (items before : List Item) (frames : List Frame) (kind : Kind) (digest : List ℕ) (levels : Levels)
+pub opens_boundary : (prefix : List ℕ) (forest : Forest) (walk : Walk) (items before : List Item) (frames : List Frame) (kind : BoundaryStatus) (digest : List ℕ) (levels : Levels)
     → items ≡ [] → before ≡ walk.items → frames ≡ walk.frames ++ Boundary kind digest before ∷ []
     → completed prefix forest (record { items = items; frames = frames; at_top = walk.at_top }) levels ≡ completed prefix forest walk (opened kind digest levels.first levels.rest)
 opens_boundary prefix forest walk items before frames kind digest levels none same is =

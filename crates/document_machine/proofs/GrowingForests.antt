@@ -4,11 +4,11 @@ use Rattle.std.proofs.lemmas.Bool.{cases_Bool, cond-true, cond-false, eq-eqb, ne
 use Rattle.dom_forest.specs.declared.node.NewNode.{NewNode}
 use Rattle.dom_forest.specs.declared.node.NodeId.{NodeId}
 use Rattle.dom_forest.specs.Forest.{Forest, empty, tree, times, count, joined}
-use Rattle.dom_forest.specs.Edits.{Numbered, changed, with_last, appended, renumbered}
+use Rattle.dom_forest.specs.Edits.{DomState, changed, with_last, appended, renumbered}
 use Rattle.document_machine.specs.Printing.{with_nodes}
 
 -- No node has an id that is not given yet.
-pub record IsFresh (dom : Numbered) : Type 0 where
+pub record IsFresh (dom : DomState) : Type 0 where
   pub none : (id : ℕ) → dom.next ≤ id → times id dom.forest ≡ 0
 
 joined_none : (a : Forest) → joined a empty ≡ a
@@ -140,25 +140,25 @@ pub with_last_times : (id : ℕ) (parent : Option NodeId) (more forest : Forest)
 with_last_times id None more forest m e = times_joined id forest more ∙ omega (arith, m, e)
 with_last_times id (Some parent) more forest m e = grown_times id parent.0 more forest m e
 
-pub fresh_nodes : (parent : Option NodeId) (more : Forest) (dom : Numbered) → IsFresh dom → IsFresh (with_nodes parent more dom)
+pub fresh_nodes : (parent : Option NodeId) (more : Forest) (dom : DomState) → IsFresh dom → IsFresh (with_nodes parent more dom)
 fresh_nodes parent more dom fresh = record {
   none = λ id h. with_last_times id parent (renumbered dom.next more) dom.forest (renumbered_times id dom.next more h) (fresh.none id (omega (arith, h)));
 }
 
-pub fresh_appended : (parent : Option NodeId) (content : NewNode) (dom : Numbered) → IsFresh dom → IsFresh (appended parent content dom)
+pub fresh_appended : (parent : Option NodeId) (content : NewNode) (dom : DomState) → IsFresh dom → IsFresh (appended parent content dom)
 fresh_appended parent content dom fresh = record {
   none = λ id h. with_last_times id parent (tree dom.next content empty empty) dom.forest
       (present_none id dom.next content empty empty (ne_eqb dom.next id (λ e. omega (arith, h, e))) refl refl) (fresh.none id (omega (arith, h)));
 }
 
-same_dom : (a b : Forest) (m n : ℕ) → a ≡ b → m ≡ n → ◌≡◌ {A = Numbered} (record { forest = a; next = m }) (record { forest = b; next = n })
+same_dom : (a b : Forest) (m n : ℕ) → a ≡ b → m ≡ n → ◌≡◌ {A = DomState} (record { forest = a; next = m }) (record { forest = b; next = n })
 same_dom a b m n e f = λ i. record { forest = e i; next = f i }
 
-pub with_nodes_none : (parent : Option NodeId) (dom : Numbered) → with_nodes parent empty dom ≡ dom
+pub with_nodes_none : (parent : Option NodeId) (dom : DomState) → with_nodes parent empty dom ≡ dom
 with_nodes_none parent dom = same_dom _ dom.forest _ dom.next (with_last_none parent dom.forest) (add-zero dom.next)
 
 -- A tree comes as its node, then its children, then what stands after it.
-pub with_nodes_tree : (parent : Option NodeId) (i : ℕ) (content : NewNode) (kids later : Forest) (dom : Numbered) → IsFresh dom
+pub with_nodes_tree : (parent : Option NodeId) (i : ℕ) (content : NewNode) (kids later : Forest) (dom : DomState) → IsFresh dom
     → with_nodes parent later (with_nodes (Some (record { 0 = dom.next })) kids (appended parent content dom)) ≡ with_nodes parent (tree i content kids later) dom
 with_nodes_tree parent i content kids later dom fresh =
     let below : with_last (Some (record { 0 = dom.next })) (renumbered (dom.next + 1) kids) (with_last parent (tree dom.next content empty empty) dom.forest) ≡ with_last parent (tree dom.next content (renumbered (dom.next + 1) kids) empty) dom.forest =

@@ -4,11 +4,11 @@ use Rattle.std.specs.Str.{IsUtf8}
 use Rattle.std.proofs.lemmas.List.{append_cancel_left}
 use Rattle.std.proofs.lemmas.List.Concat.{flat_map-append}
 use Rattle.html_names.specs.Escape.{spelling_of, escaped}
-use Rattle.html_read.specs.declared.token.Tok.{Tok}
-use Rattle.html_read.specs.declared.token.Tok.TheVariants as tok
+use Rattle.html_read.specs.declared.token.Token.{Token}
+use Rattle.html_read.specs.declared.token.Token.TheVariants as tok
 use Rattle.html_read.specs.Tokens.{IsTok, MayFollow, spelling, spellings, is_text}
 use Rattle.html_read.specs.Faults.{Splits, begins_tag, ends_in_text}
-use Rattle.document_machine.specs.Running.{Building}
+use Rattle.document_machine.specs.Running.{PageState}
 use Rattle.document_machine.specs.Documents.{Steps, IsTextAtEnd, Runs, LeavesNoRest}
 use Rattle.document_machine.proofs.LowerLaws.{TokenLaws, ScriptLaws}
 use Rattle.document_machine.proofs.MovedTokens.{placed, placed_spellings, placed_steps, placed_ends, placed_are, MayBeTokens, may_be_tokens, may_be_first}
@@ -28,7 +28,7 @@ escaped_no_tag : (text more : List ℕ) → text ≢ [] → begins_tag (escaped 
 escaped_no_tag [] more some = absurd (some refl)
 escaped_no_tag (b ∷ bs) more some = ap begins_tag (append_assoc (spelling_of b) (escaped bs) more) ∙ spelled_no_tag b (escaped bs ++ more)
 
-text_no_tag : (t : Tok) (more : List ℕ) → IsTok t → is_text t ≡ true → begins_tag (spelling t ++ more) ≡ false
+text_no_tag : (t : Token) (more : List ℕ) → IsTok t → is_text t ≡ true → begins_tag (spelling t ++ more) ≡ false
 text_no_tag (tok.Start name attributes from) more h t = absurd (nothing_true t)
 text_no_tag (tok.End name from) more h t = absurd (nothing_true t)
 text_no_tag (tok.Void name attributes from) more h t = absurd (nothing_true t)
@@ -37,15 +37,15 @@ text_no_tag (tok.Comment which from) more h t = absurd (nothing_true t)
 text_no_tag (tok.Script body from) more h t = absurd (nothing_true t)
 
 -- Tokens one after the other.
-pub ends_append : (after : Bool) (xs ys : List Tok) → ends_in_text after (xs ++ ys) ≡ ends_in_text (ends_in_text after xs) ys
+pub ends_append : (after : Bool) (xs ys : List Token) → ends_in_text after (xs ++ ys) ≡ ends_in_text (ends_in_text after xs) ys
 ends_append after [] ys = refl
 ends_append after (x ∷ xs) ys = ends_append (is_text x) xs ys
 
-may_append : (after : Bool) (xs ys : List Tok) → MayBeTokens after xs → MayBeTokens (ends_in_text after xs) ys → MayBeTokens after (xs ++ ys)
+may_append : (after : Bool) (xs ys : List Token) → MayBeTokens after xs → MayBeTokens (ends_in_text after xs) ys → MayBeTokens after (xs ++ ys)
 may_append after [] ys h k = k
 may_append after (x ∷ xs) ys h k = (h.0, h.1, may_append (is_text x) xs ys h.2 k)
 
-may_part : (after : Bool) (xs ys : List Tok) → MayBeTokens after (xs ++ ys) → MayBeTokens (ends_in_text after xs) ys
+may_part : (after : Bool) (xs ys : List Token) → MayBeTokens after (xs ++ ys) → MayBeTokens (ends_in_text after xs) ys
 may_part after [] ys h = h
 may_part after (x ∷ xs) ys h = may_part (is_text x) xs ys h.2
 
@@ -55,19 +55,19 @@ follows true false n = tt
 follows false text n = tt
 
 -- What begins with `<` may follow anything.
-may_follow : (before : Bool) (toks : List Tok) (rest bytes : List ℕ) → MayBeTokens false toks → bytes ≡ spellings toks ++ rest → begins_tag bytes ≡ true → MayBeTokens before toks
+may_follow : (before : Bool) (toks : List Token) (rest bytes : List ℕ) → MayBeTokens false toks → bytes ≡ spellings toks ++ rest → begins_tag bytes ≡ true → MayBeTokens before toks
 may_follow before [] rest bytes h e tag = tt
 may_follow before (t ∷ ts) rest bytes h e tag =
     (h.0, follows before (is_text t) (λ b text. nothing_true (sym (text_no_tag t (spellings ts ++ rest) h.0 text) ∙ (ap begins_tag (sym (append_assoc (spelling t) (spellings ts) rest)) ∙ (ap begins_tag (sym e) ∙ tag)))), h.2)
 
 -- A run that leaves no rest is one of tokens alone.
-record OfTokens (prefix : List ℕ) (start : Building) (bytes : List ℕ) (end : Building) : Type 0 where
-  toks : List Tok
+record OfTokens (prefix : List ℕ) (start : PageState) (bytes : List ℕ) (end : PageState) : Type 0 where
+  toks : List Token
   may : MayBeTokens false toks
   spelled : bytes ≡ spellings toks
   steps : Steps prefix start toks end
 
-of_last : (prefix : List ℕ) (start : Building) (bytes : List ℕ) (end : Building) (toks last : List Tok) (rest : List ℕ) → Splits bytes toks rest → IsTextAtEnd rest last → Steps prefix start (toks ++ last) end
+of_last : (prefix : List ℕ) (start : PageState) (bytes : List ℕ) (end : PageState) (toks last : List Token) (rest : List ℕ) → Splits bytes toks rest → IsTextAtEnd rest last → Steps prefix start (toks ++ last) end
     → (last ≡ [] → rest ≡ []) → OfTokens prefix start bytes end
 of_last prefix start bytes end toks [] rest split text steps none = record {
   toks = toks;
@@ -84,25 +84,25 @@ of_last prefix start bytes end toks (t ∷ []) rest split text steps none = reco
 }
 of_last prefix start bytes end toks (t ∷ u ∷ us) rest split text steps none = absurd text
 
-of_tokens : (prefix : List ℕ) (start : Building) (bytes : List ℕ) (end : Building) (run : Runs prefix start bytes end) → LeavesNoRest run → OfTokens prefix start bytes end
+of_tokens : (prefix : List ℕ) (start : PageState) (bytes : List ℕ) (end : PageState) (run : Runs prefix start bytes end) → LeavesNoRest run → OfTokens prefix start bytes end
 of_tokens prefix start bytes end run none = of_last prefix start bytes end run.toks run.last run.rest run.split run.text run.steps none
 
 -- Whether tokens after others end in a text, where the bytes after these begin with `<`.
-ends_alone : (before : Bool) (toks : List Tok) (rest bytes : List ℕ) → bytes ≡ spellings toks ++ rest → begins_tag bytes ≡ true → (ends_in_text false toks ≡ true → begins_tag rest ≡ true) → ends_in_text before toks ≡ true → begins_tag rest ≡ true
+ends_alone : (before : Bool) (toks : List Token) (rest bytes : List ℕ) → bytes ≡ spellings toks ++ rest → begins_tag bytes ≡ true → (ends_in_text false toks ≡ true → begins_tag rest ≡ true) → ends_in_text before toks ≡ true → begins_tag rest ≡ true
 ends_alone before [] rest bytes e tag h k = ap begins_tag (sym e) ∙ tag
 ends_alone before (t ∷ ts) rest bytes e tag h k = h k
 
 -- Steps along tokens at other places, and then others.
-placed_before : (prefix : List ℕ) (place : ℕ) (a c : Building) (xs ys : List Tok) → Steps prefix a (xs ++ ys) c → Steps prefix a (placed place xs ++ ys) c
+placed_before : (prefix : List ℕ) (place : ℕ) (a c : PageState) (xs ys : List Token) → Steps prefix a (xs ++ ys) c → Steps prefix a (placed place xs ++ ys) c
 placed_before prefix place a c xs ys s =
     let over : StepsOver prefix a xs ys c = steps_over prefix a xs ys c s in
     steps_append prefix a over.middle c (placed place xs) ys (placed_steps prefix place a over.middle xs over.first) over.second
 
-pub joined : (prefix : List ℕ) (start middle end : Building) (a b : List ℕ) (run : Runs prefix start a middle) → LeavesNoRest run → begins_tag b ≡ true → (later : Runs prefix middle b end)
+pub joined : (prefix : List ℕ) (start middle end : PageState) (a b : List ℕ) (run : Runs prefix start a middle) → LeavesNoRest run → begins_tag b ≡ true → (later : Runs prefix middle b end)
     → (whole : Runs prefix start (a ++ b) end) × (LeavesNoRest later → LeavesNoRest whole)
 joined prefix start middle end a b run none tag later =
     let first : OfTokens prefix start a middle = of_tokens prefix start a middle run none in
-    let toks : List Tok = first.toks ++ later.toks in
+    let toks : List Token = first.toks ++ later.toks in
     let before : Bool = ends_in_text false first.toks in
     let whole : Runs prefix start (a ++ b) end = record {
       toks = placed 0 toks;
@@ -121,19 +121,19 @@ joined prefix start middle end a b run none tag later =
     } in
     (whole, λ h. h)
 
-ends_further : (before : Bool) (toks : List Tok) → ends_in_text false toks ≡ true → ends_in_text before toks ≡ true
+ends_further : (before : Bool) (toks : List Token) → ends_in_text false toks ≡ true → ends_in_text before toks ≡ true
 ends_further before [] e = absurd (nothing_true e)
 ends_further before (t ∷ ts) e = e
 
-pub parted : TokenLaws → ScriptLaws → (prefix : List ℕ) (start middle end : Building) (a b : List ℕ) (run : Runs prefix start a middle) → IsUtf8 prefix → LeavesNoRest run → begins_tag b ≡ true
+pub parted : TokenLaws → ScriptLaws → (prefix : List ℕ) (start middle end : PageState) (a b : List ℕ) (run : Runs prefix start a middle) → IsUtf8 prefix → LeavesNoRest run → begins_tag b ≡ true
     → Runs prefix start (a ++ b) end → Runs prefix middle b end
 parted laws scripts prefix start middle end a b run utf8 none tag whole =
     let first : OfTokens prefix start a middle = of_tokens prefix start a middle run none in
-    let front : List Tok = placed 0 first.toks in
+    let front : List Token = placed 0 first.toks in
     let spelled : a ≡ spellings front = first.spelled ∙ sym (placed_spellings 0 first.toks) in
-    let found : (further : List Tok) × (whole.toks ≡ front ++ further) =
+    let found : (further : List Token) × (whole.toks ≡ front ++ further) =
     laws.front (a ++ b) front whole.toks b whole.rest (placed_are 0 false first.toks first.may) (ap (λ x. x ++ b) spelled) (λ e. tag) whole.split in
-    let further : List Tok = found.0 in
+    let further : List Token = found.0 in
     let before : Bool = ends_in_text false front in
     let bytes : b ≡ spellings further ++ whole.rest =
     append_cancel_left (spellings front) b (spellings further ++ whole.rest)
@@ -156,6 +156,6 @@ parted laws scripts prefix start middle end a b run utf8 none tag whole =
       steps = placed_before prefix 0 middle end further whole.last (subst (λ x. Steps prefix x (further ++ whole.last) end) same over.second);
     }
 
-pub rest_run : TokenLaws → (prefix : List ℕ) (start end : Building) (bytes : List ℕ) (run : Runs prefix start bytes end) → run.last ≡ [] → Runs prefix start (spellings run.toks) end
+pub rest_run : TokenLaws → (prefix : List ℕ) (start end : PageState) (bytes : List ℕ) (run : Runs prefix start bytes end) → run.last ≡ [] → Runs prefix start (spellings run.toks) end
 rest_run laws prefix start end bytes run none =
     (tokens_run laws prefix start end run.toks run.split.tokens (subst (λ x. Steps prefix start x end) (ap (λ x. run.toks ++ x) none ∙ append-nil run.toks) run.steps)).0

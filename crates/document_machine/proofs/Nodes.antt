@@ -3,7 +3,7 @@ use Rattle.std.proofs.Common.{◌≡◌, ℕ, ◌+◌, ◌*◌, ◌<◌, List, [
 use Rattle.fizz_text.specs.declared.attribute.Attr.{Attr}
 use Rattle.dom_forest.specs.declared.document.DocNode.{DocNode}
 use Rattle.dom_forest.specs.declared.document.DocNode.TheVariants as doc
-use Rattle.document_machine.specs.declared.kind.Kind.{Kind}
+use Rattle.document_machine.specs.declared.status.BoundaryStatus.{BoundaryStatus}
 use Rattle.document_machine.specs.declared.settling.Begun.{Begun}
 use Rattle.document_machine.specs.declared.settling.Begun.TheVariants.{Element, Boundary}
 use Rattle.document_machine.specs.declared.settling.Frame.{Frame}
@@ -42,7 +42,7 @@ begins_element frames now frame nodes inner name attributes items later kids fir
     ∙ ap (λ (i : Item). all_closed frames (nodes ++ nodes_of (seen (i ∷ later)))) (sym first_is)
 
 -- A boundary is begun.
-pub begins_boundary : (frames now : List Frame) (frame : Frame) (nodes : List DocNode) (kind : Kind) (digest : List ℕ) (items later kids : List Item) (first : Item)
+pub begins_boundary : (frames now : List Frame) (frame : Frame) (nodes : List DocNode) (kind : BoundaryStatus) (digest : List ℕ) (items later kids : List Item) (first : Item)
     → now ≡ frames ++ frame ∷ [] → frame.begun ≡ Boundary → frame.later.now ≡ later → kids ≡ items → first ≡ item.Boundary kind digest items
     → completed now nodes kids ≡ completed frames nodes (first ∷ later)
 begins_boundary frames now frame nodes kind digest items later kids first now_is begun_is later_is kids_is first_is =
@@ -71,7 +71,7 @@ pub size-element : (name : List ℕ) (attributes : List Attr) (items later : Lis
     → size (seen (first ∷ later)) ≡ 1 + size (seen items) + size (seen later)
 size-element name attributes items later first is = ap (λ (i : Item). size (seen (i ∷ later))) is ∙ ap size (placed-element name attributes items (seen later))
 
-pub size-boundary : (kind : Kind) (digest : List ℕ) (items later : List Item) (first : Item) → first ≡ item.Boundary kind digest items
+pub size-boundary : (kind : BoundaryStatus) (digest : List ℕ) (items later : List Item) (first : Item) → first ≡ item.Boundary kind digest items
     → size (seen (first ∷ later)) ≡ 1 + size (seen items) + size (seen later)
 size-boundary kind digest items later first is = ap (λ (i : Item). size (seen (i ∷ later))) is ∙ ap size (placed-boundary kind digest items (seen later))
 

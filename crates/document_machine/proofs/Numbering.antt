@@ -3,12 +3,12 @@ use Rattle.std.proofs.Common.{◌≡◌, ◌≢◌, ℕ, zero, ◌+◌, ◌<◌,
 use Rattle.std.proofs.lemmas.Bool.{cond-false, eqb-true, ne_eqb, cases_eq, cases_lt}
 use Rattle.dom_forest.specs.declared.node.NewNode.{NewNode}
 use Rattle.dom_forest.specs.Forest.{Forest, empty, tree, times, count, joined}
-use Rattle.dom_forest.specs.Edits.{Numbered, IsNumbered, changed, renumbered, without, with_before, with_content, with_digest_at, digest_set}
+use Rattle.dom_forest.specs.Edits.{DomState, IsNumbered, changed, renumbered, without, with_before, with_content, with_digest_at, digest_set}
 use Rattle.document_machine.specs.Edits.{from_sibling, without_range}
 use Rattle.document_machine.proofs.Spots.{Change, absent, spot}
 use Rattle.document_machine.proofs.Shapes.{dressed_times}
 
-pub numbered_fewer : (dom : Numbered) (forest : Forest) → IsNumbered dom → ((j : ℕ) → times j forest ≤ times j dom.forest) → IsNumbered (record dom { forest = forest })
+pub numbered_fewer : (dom : DomState) (forest : Forest) → IsNumbered dom → ((j : ℕ) → times j forest ≤ times j dom.forest) → IsNumbered (record dom { forest = forest })
 numbered_fewer dom forest d fewer = record {
   once = λ j. omega (arith, fewer j, d.once j);
   given = λ j h. omega (arith, fewer j, d.given j h);
@@ -28,7 +28,7 @@ changed_fewer j id change empty h = omega arith
 changed_fewer j id change (tree i content kids later) h =
     changed_tree j id i change content kids later (i == id) refl (h content kids later) (changed_fewer j id change kids h) (changed_fewer j id change later h)
 
-pub numbered_without : (id : ℕ) (dom : Numbered) → IsNumbered dom → IsNumbered (without id dom)
+pub numbered_without : (id : ℕ) (dom : DomState) → IsNumbered dom → IsNumbered (without id dom)
 numbered_without id dom d = numbered_fewer dom _ d (λ j. changed_fewer j id _ dom.forest (λ content kids later. omega arith))
 
 from_sibling_fewer : (j end : ℕ) (forest : Forest) → times j (from_sibling end forest) ≤ times j forest
@@ -38,14 +38,14 @@ from_sibling_fewer j end (tree i content kids later) = fewer (i == end) (from_si
   fewer true h = omega arith
   fewer false h = omega (arith, h)
 
-pub numbered_range : (first end : ℕ) (dom : Numbered) → IsNumbered dom → IsNumbered (without_range first end dom)
+pub numbered_range : (first end : ℕ) (dom : DomState) → IsNumbered dom → IsNumbered (without_range first end dom)
 numbered_range first end dom d =
     numbered_fewer dom _ d (λ j. changed_fewer j first _ dom.forest (λ content kids later. omega (arith, from_sibling_fewer j end later)))
 
-pub numbered_content : (id : ℕ) (node : NewNode) (dom : Numbered) → IsNumbered dom → IsNumbered (with_content id node dom)
+pub numbered_content : (id : ℕ) (node : NewNode) (dom : DomState) → IsNumbered dom → IsNumbered (with_content id node dom)
 numbered_content id node dom d = numbered_fewer dom _ d (λ j. omega (arith, dressed_times j id (λ _. node) dom.forest))
 
-pub numbered_digest : (id : ℕ) (digest : List ℕ) (dom : Numbered) → IsNumbered dom → IsNumbered (with_digest_at id digest dom)
+pub numbered_digest : (id : ℕ) (digest : List ℕ) (dom : DomState) → IsNumbered dom → IsNumbered (with_digest_at id digest dom)
 numbered_digest id digest dom d = numbered_fewer dom _ d (λ j. omega (arith, dressed_times j id (digest_set digest) dom.forest))
 
 joined_times : (j : ℕ) (a b : Forest) → times j (joined a b) ≡ times j a + times j b
@@ -98,7 +98,7 @@ put_times j id next part forest once = elim (cases_eq (times id forest) 0) [
       )
 ]
 
-pub numbered_before : (id : ℕ) (part dom : Numbered) → IsNumbered dom → IsNumbered (with_before id part dom)
+pub numbered_before : (id : ℕ) (part dom : DomState) → IsNumbered dom → IsNumbered (with_before id part dom)
 numbered_before id part dom d = record {
   once = λ j. elim (cases_lt j dom.next) [
     | inl old ↦ omega (arith, put_times j id dom.next (renumbered dom.next part.forest) dom.forest (d.once id), (given j dom.next part.forest).below old, d.once j)

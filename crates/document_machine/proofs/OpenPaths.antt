@@ -5,7 +5,7 @@ use Rattle.std.proofs.lemmas.List.{append_assoc, reverse-append}
 use Rattle.dom_forest.specs.declared.node.NewNode.{NewNode}
 use Rattle.dom_forest.specs.declared.node.NodeId.{NodeId}
 use Rattle.dom_forest.specs.Forest.{Forest, empty, tree, times, joined, from, or_else, first_content, content_of, IsElement, MayHaveChildren}
-use Rattle.dom_forest.specs.Edits.{Numbered, IsNumbered, changed, with_last, appended}
+use Rattle.dom_forest.specs.Edits.{DomState, IsNumbered, changed, with_last, appended}
 use Rattle.document_machine.specs.declared.building.OpenElement.{OpenElement}
 use Rattle.document_machine.specs.Paths.{IsPath, IsOpenDocument}
 use Rattle.document_machine.specs.Running.{ids_of, innermost}
@@ -128,14 +128,14 @@ regroup xs x y = append_assoc xs (x ∷ []) (y ∷ [])
 outermost_first : (x : ℕ) (xs : List ℕ) → reverse (x ∷ xs) ≡ reverse xs ++ x ∷ []
 outermost_first x xs = reverse-append (x ∷ []) xs
 
-path_of : (o : OpenElement) (os : List OpenElement) (dom : Numbered) → IsOpenDocument (ids_of (o ∷ os)) dom → IsPath (reverse (ids_of os) ++ o.id.0 ∷ []) dom.forest
+path_of : (o : OpenElement) (os : List OpenElement) (dom : DomState) → IsOpenDocument (ids_of (o ∷ os)) dom → IsPath (reverse (ids_of os) ++ o.id.0 ∷ []) dom.forest
 path_of o os dom h = subst (λ xs. IsPath xs dom.forest) (outermost_first o.id.0 (ids_of os)) h.path
 
-pub may_append : (opened : List OpenElement) (dom : Numbered) → IsOpenDocument (ids_of opened) dom → MayHaveChildren (innermost opened) dom.forest
+pub may_append : (opened : List OpenElement) (dom : DomState) → IsOpenDocument (ids_of opened) dom → MayHaveChildren (innermost opened) dom.forest
 may_append [] dom h = tt
 may_append (o ∷ os) dom h = path_element (reverse (ids_of os)) o.id.0 dom.forest h.numbered.once (path_of o os dom h)
 
-pub document_appended : (opened : List OpenElement) (node : NewNode) (dom : Numbered) → IsOpenDocument (ids_of opened) dom
+pub document_appended : (opened : List OpenElement) (node : NewNode) (dom : DomState) → IsOpenDocument (ids_of opened) dom
     → IsNumbered (appended (innermost opened) node dom) → IsOpenDocument (ids_of opened) (appended (innermost opened) node dom)
 document_appended [] node dom h n = record { numbered = n; path = tt }
 document_appended (o ∷ os) node dom h n = record {
@@ -144,13 +144,13 @@ document_appended (o ∷ os) node dom h n = record {
       (grows (reverse (ids_of os)) o.id.0 [] (tree dom.next node empty empty) (λ kids. tt) dom.forest h.numbered.once (path_of o os dom h));
 }
 
-pub document_added : (opened : List OpenElement) (parent : Option NodeId) (node : NewNode) (dom new : Numbered) → IsOpenDocument (ids_of opened) dom
+pub document_added : (opened : List OpenElement) (parent : Option NodeId) (node : NewNode) (dom new : DomState) → IsOpenDocument (ids_of opened) dom
     → parent ≡ innermost opened → new ≡ appended parent node dom → IsNumbered new → IsOpenDocument (ids_of opened) new
 document_added opened parent node dom new h p e n =
     let is : new ≡ appended (innermost opened) node dom = e ∙ ap (λ (o : Option NodeId). appended o node dom) p in
     subst (IsOpenDocument (ids_of opened)) (sym is) (document_appended opened node dom h (subst IsNumbered is n))
 
-pub document_opened : (opened : List OpenElement) (node : NewNode) (name : List ℕ) (dom : Numbered) → IsElement (Some node) → IsOpenDocument (ids_of opened) dom
+pub document_opened : (opened : List OpenElement) (node : NewNode) (name : List ℕ) (dom : DomState) → IsElement (Some node) → IsOpenDocument (ids_of opened) dom
     → IsNumbered (appended (innermost opened) node dom)
     → IsOpenDocument (ids_of (record { id = record { 0 = dom.next }; name = name } ∷ opened)) (appended (innermost opened) node dom)
 document_opened [] node name dom is h n = record { numbered = n; path = ends_with dom.next node is dom.forest }
@@ -161,10 +161,10 @@ document_opened (o ∷ os) node name dom is h n = record {
       (grows (reverse (ids_of os)) o.id.0 (dom.next ∷ []) (tree dom.next node empty empty) (ends_with dom.next node is) dom.forest h.numbered.once (path_of o os dom h));
 }
 
-pub document_closed : (o : OpenElement) (os : List OpenElement) (dom : Numbered) → IsOpenDocument (ids_of (o ∷ os)) dom → IsOpenDocument (ids_of os) dom
+pub document_closed : (o : OpenElement) (os : List OpenElement) (dom : DomState) → IsOpenDocument (ids_of (o ∷ os)) dom → IsOpenDocument (ids_of os) dom
 document_closed o os dom h = record { numbered = h.numbered; path = shorter (reverse (ids_of os)) o.id.0 dom.forest (path_of o os dom h) }
 
-pub document_pushed : (old now : List OpenElement) (parent : Option NodeId) (id : NodeId) (node : NewNode) (name : List ℕ) (dom new : Numbered) → IsElement (Some node)
+pub document_pushed : (old now : List OpenElement) (parent : Option NodeId) (id : NodeId) (node : NewNode) (name : List ℕ) (dom new : DomState) → IsElement (Some node)
     → IsOpenDocument (ids_of (reverse old)) dom → parent ≡ innermost (reverse old) → new ≡ appended parent node dom → IsNumbered new → id.0 ≡ dom.next
     → now ≡ old ++ record { id = id; name = name } ∷ [] → IsOpenDocument (ids_of (reverse now)) new
 document_pushed old now parent id node name dom new is h p e n i items =

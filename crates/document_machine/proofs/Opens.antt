@@ -7,7 +7,7 @@ use Rattle.std.proofs.lemmas.List.Folds.{list_any-append}
 use Rattle.dom_forest.specs.declared.node.NewNode.{NewNode}
 use Rattle.dom_forest.specs.declared.node.NewNode.TheVariants.{Element, Text, Comment}
 use Rattle.dom_forest.specs.Forest.{Forest, empty, tree, times, joined, from, first_content, first_later, content_of, later_of, IsThere, IsElement, IsComment}
-use Rattle.dom_forest.specs.Edits.{Numbered, changed, renumbered, without, with_before, with_content, with_digest_at, digest_set}
+use Rattle.dom_forest.specs.Edits.{DomState, changed, renumbered, without, with_before, with_content, with_digest_at, digest_set}
 use Rattle.document_machine.specs.Edits.{from_sibling, without_range}
 use Rattle.document_machine.specs.Paths.{IsPath, IsOpenDocument}
 use Rattle.document_machine.proofs.Spots.{Change, absent, spot, path_past}
@@ -79,7 +79,7 @@ last_from o rest end (tree i content kids later) h p = suffix (i == end) h p (la
   suffix true h p after = p
   suffix false h p after = after (omega arith) (last_of o rest i content kids later end (omega arith) p)
 
-module _ (opened : List ℕ) (dom : Numbered) (d : IsOpenDocument opened dom) where
+module _ (opened : List ℕ) (dom : DomState) (d : IsOpenDocument opened dom) where
   pub open_without : (id : ℕ) → list_any (λ n. n == id) opened ≡ false → IsOpenDocument opened (without id dom)
   open_without id closed = record {
     numbered = numbered_without id dom d.numbered;
@@ -101,7 +101,7 @@ module _ (opened : List ℕ) (dom : Numbered) (d : IsOpenDocument opened dom) wh
         (λ content kids later found o rest other p. last_dressed id digest content kids later o rest p);
   }
 
-  pub open_before : (id : ℕ) (part : Numbered) → IsOpenDocument opened (with_before id part dom)
+  pub open_before : (id : ℕ) (part : DomState) → IsOpenDocument opened (with_before id part dom)
   open_before id part = record {
     numbered = numbered_before id part dom d.numbered;
     path = path_changed id _ (reverse opened) nobody dom.forest (d.numbered.once id) d.path (list_any_nobody (reverse opened))

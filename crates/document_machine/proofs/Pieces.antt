@@ -3,23 +3,23 @@ use Rattle.std.proofs.Common.{◌≡◌, ◌⊎◌, ⊎_elim, ℕ, ◌+◌, Bool
 use Rattle.std.proofs.lemmas.List.{append_assoc, append-nil}
 use Rattle.std.proofs.Common.{take-append-drop}
 use Rattle.std.proofs.lemmas.List.Concat.{flat_map-append}
-use Rattle.html_read.specs.declared.token.Tok.{Tok}
+use Rattle.html_read.specs.declared.token.Token.{Token}
 use Rattle.html_read.specs.declared.fault.ReadKind.{ReadKind}
 use Rattle.html_read.specs.Tokens.{AreTokensFrom, AreTokens, spelling, spellings, is_text}
 use Rattle.html_read.specs.Faults.{HasFault}
-use Rattle.html_read.specs.Reading.{Held, HasRead, MeetsFault, MetFault}
+use Rattle.html_read.specs.Reading.{ReaderState, HasRead, MeetsFault, MetFault}
 use Rattle.document_machine.specs.declared.fault.MachineFault.{MachineFault}
 use Rattle.document_machine.specs.declared.fault.MachineFault.TheVariants.{Html, UnknownFunction, NoSuchId, NotBoundary, OutOfMemory}
 use Rattle.document_machine.specs.Documents.{Steps}
 use Rattle.document_machine.specs.Faults.{HasMachineFault, StopsAtToken}
-use Rattle.document_machine.specs.Running.{Building, at_first}
+use Rattle.document_machine.specs.Running.{PageState, at_first}
 use Rattle.document_machine.specs.Taking.{Finds, IsPieceCause, IsTakingCause, StopsIn, Went}
-use Rattle.document_machine.specs.Holding.{FeedRefusal, Holding, IsStopped}
+use Rattle.document_machine.specs.MachineState.{FeedRefusal, MachineState, IsStopped}
 use Rattle.document_machine.specs.declared.stop.Stop.TheVariants.{GoesOn}
 use Rattle.document_machine.proofs.OneStep.{steps_append}
 
-pub goes_on : (prefix bytes piece : List ℕ) (old new : Held) (start end : Building) (toks : List Tok)
-    → ((bytes : List ℕ) (before : List Tok) → HasRead bytes before old → HasRead (bytes ++ piece) (before ++ toks) new)
+pub goes_on : (prefix bytes piece : List ℕ) (old new : ReaderState) (start end : PageState) (toks : List Token)
+    → ((bytes : List ℕ) (before : List Token) → HasRead bytes before old → HasRead (bytes ++ piece) (before ++ toks) new)
     → Steps prefix start toks end → Went prefix bytes old start → Went prefix (bytes ++ piece) new end
 goes_on prefix bytes piece old new start end toks reads steps w = record {
   toks = w.toks ++ toks;
@@ -28,16 +28,16 @@ goes_on prefix bytes piece old new start end toks reads steps w = record {
 }
 
 -- Tokens that begin others are tokens.
-first_tokens : (place : ℕ) (after : Bool) (front more : List Tok) → AreTokensFrom place after (front ++ more) → AreTokensFrom place after front
+first_tokens : (place : ℕ) (after : Bool) (front more : List Token) → AreTokensFrom place after (front ++ more) → AreTokensFrom place after front
 first_tokens place after [] more h = tt
 first_tokens place after (t ∷ front) more h = (h.0, h.1, h.2, first_tokens (place + length (spelling t)) (is_text t) front more h.3)
 
-split_at : (before done after : List Tok) (stop : Tok) → before ++ (done ++ stop ∷ after) ≡ ((before ++ done) ++ stop ∷ []) ++ after
+split_at : (before done after : List Token) (stop : Token) → before ++ (done ++ stop ∷ after) ≡ ((before ++ done) ++ stop ∷ []) ++ after
 split_at before done after stop =
     sym (append_assoc before done (stop ∷ after)) ∙ sym (append_assoc (before ++ done) (stop ∷ []) after)
 
 -- The first token that can't be followed, of tokens that begin the bytes.
-pub stops_token : (prefix bytes rest : List ℕ) (start : Building) (before toks : List Tok) (fault : MachineFault)
+pub stops_token : (prefix bytes rest : List ℕ) (start : PageState) (before toks : List Token) (fault : MachineFault)
     → AreTokens (before ++ toks) → bytes ≡ spellings (before ++ toks) ++ rest → Steps prefix at_first before start → StopsIn prefix start toks fault
     → StopsAtToken prefix at_first bytes fault
 stops_token prefix bytes rest start before toks fault are is steps s =
@@ -60,16 +60,16 @@ stops_token prefix bytes rest start before toks fault are is steps s =
       refuses = s.refuses;
     }
 
-stops_read : (prefix bytes piece : List ℕ) (old new : Held) (start : Building) (toks : List Tok) (fault : MachineFault)
-    → ((bytes : List ℕ) (before : List Tok) → HasRead bytes before old → HasRead (bytes ++ piece) (before ++ toks) new)
+stops_read : (prefix bytes piece : List ℕ) (old new : ReaderState) (start : PageState) (toks : List Token) (fault : MachineFault)
+    → ((bytes : List ℕ) (before : List Token) → HasRead bytes before old → HasRead (bytes ++ piece) (before ++ toks) new)
     → StopsIn prefix start toks fault → Went prefix bytes old start → HasMachineFault prefix at_first (bytes ++ piece) fault
 stops_read prefix bytes piece old new start toks fault reads s w =
     let r = reads bytes w.toks w.read in
     inl (stops_token prefix (bytes ++ piece) new.rest start w.toks toks fault r.split.tokens r.split.whole w.steps s)
 
 -- A token of the piece stops the machine.
-pub read_cause : (prefix piece : List ℕ) (old new : Held) (start : Building) (toks : List Tok) (fault : MachineFault)
-    → ((bytes : List ℕ) (before : List Tok) → HasRead bytes before old → HasRead (bytes ++ piece) (before ++ toks) new)
+pub read_cause : (prefix piece : List ℕ) (old new : ReaderState) (start : PageState) (toks : List Token) (fault : MachineFault)
+    → ((bytes : List ℕ) (before : List Token) → HasRead bytes before old → HasRead (bytes ++ piece) (before ++ toks) new)
     → IsTakingCause prefix start toks fault → IsPieceCause prefix old start piece fault
 read_cause prefix piece old new start toks (Html at) reads s = λ bytes. stops_read prefix bytes piece old new start toks (Html at) reads s
 read_cause prefix piece old new start toks (UnknownFunction at) reads s = λ bytes. stops_read prefix bytes piece old new start toks (UnknownFunction at) reads s
@@ -77,18 +77,18 @@ read_cause prefix piece old new start toks (NoSuchId at id) reads s = λ bytes. 
 read_cause prefix piece old new start toks (NotBoundary at) reads s = λ bytes. stops_read prefix bytes piece old new start toks (NotBoundary at) reads s
 read_cause prefix piece old new start toks OutOfMemory reads s = tt
 
-met_none : (old : Held) (at : ℕ) (kind : ReadKind) → old.fault ≡ Some (at, kind) → old.fault ≡ None → ⊥
+met_none : (old : ReaderState) (at : ℕ) (kind : ReadKind) → old.fault ≡ Some (at, kind) → old.fault ≡ None → ⊥
 met_none old at kind e f = cc
 
 -- The reader's fault, for a reader that had met none.
-meets : (old new : Held) (piece bytes : List ℕ) (before toks : List Tok) (at : ℕ) (kind : ReadKind)
+meets : (old new : ReaderState) (piece bytes : List ℕ) (before toks : List Token) (at : ℕ) (kind : ReadKind)
     → (((old.fault ≡ None) × MeetsFault old piece toks at kind new) ⊎ MetFault old toks at kind new) → HasRead bytes before old
     → HasFault (bytes ++ piece) (before ++ toks) at kind
 meets old new piece bytes before toks at kind cause r =
     ⊎_elim (λ m. m.1.cause bytes before r) (λ m. absurd (met_none old at kind m.fault_is r.sound)) cause
 
-stops_before : (prefix bytes piece : List ℕ) (old : Held) (start : Building) (toks : List Tok) (at : ℕ) (kind : ReadKind) (fault : MachineFault)
-    → ((bytes : List ℕ) (before : List Tok) → HasRead bytes before old → HasFault (bytes ++ piece) (before ++ toks) at kind)
+stops_before : (prefix bytes piece : List ℕ) (old : ReaderState) (start : PageState) (toks : List Token) (at : ℕ) (kind : ReadKind) (fault : MachineFault)
+    → ((bytes : List ℕ) (before : List Token) → HasRead bytes before old → HasFault (bytes ++ piece) (before ++ toks) at kind)
     → StopsIn prefix start toks fault → Went prefix bytes old start → HasMachineFault prefix at_first (bytes ++ piece) fault
 stops_before prefix bytes piece old start toks at kind fault cause s w =
     let h = cause bytes w.toks w.read in
@@ -98,7 +98,7 @@ stops_before prefix bytes piece old start toks at kind fault cause s w =
     inl (stops_token prefix (bytes ++ piece) (h.rest ++ drop at (bytes ++ piece)) start w.toks toks fault h.split.tokens all w.steps s)
 
 -- A token before the reader's fault stops the machine.
-pub before_cause : (prefix piece : List ℕ) (old new : Held) (start : Building) (toks : List Tok) (at : ℕ) (kind : ReadKind) (fault : MachineFault)
+pub before_cause : (prefix piece : List ℕ) (old new : ReaderState) (start : PageState) (toks : List Token) (at : ℕ) (kind : ReadKind) (fault : MachineFault)
     → (((old.fault ≡ None) × MeetsFault old piece toks at kind new) ⊎ MetFault old toks at kind new)
     → IsTakingCause prefix start toks fault → IsPieceCause prefix old start piece fault
 before_cause prefix piece old new start toks at kind (Html n) cause s = λ bytes. stops_before prefix bytes piece old start toks at kind (Html n) (λ b ts r. meets old new piece b ts toks at kind cause r) s
@@ -108,7 +108,7 @@ before_cause prefix piece old new start toks at kind (NotBoundary n) cause s = �
 before_cause prefix piece old new start toks at kind OutOfMemory cause s = tt
 
 -- The reader's fault itself.
-pub fault_cause : (prefix piece : List ℕ) (old new : Held) (start end : Building) (toks : List Tok) (at : ℕ) (kind : ReadKind)
+pub fault_cause : (prefix piece : List ℕ) (old new : ReaderState) (start end : PageState) (toks : List Token) (at : ℕ) (kind : ReadKind)
     → (((old.fault ≡ None) × MeetsFault old piece toks at kind new) ⊎ MetFault old toks at kind new)
     → Steps prefix start toks end → Finds prefix old start piece (Html at)
 fault_cause prefix piece old new start end toks at kind cause steps bytes w =
@@ -123,7 +123,7 @@ fault_cause prefix piece old new start end toks at kind cause steps bytes w =
     }
 
 -- A machine that has stopped answers again, and was fed nothing that it followed.
-pub refused_again : (old new : Holding) (piece : List ℕ) (fault : MachineFault) → IsStopped new.stop fault → (old.stop ≡ GoesOn → ⊥) → FeedRefusal old piece new fault
+pub refused_again : (old new : MachineState) (piece : List ℕ) (fault : MachineFault) → IsStopped new.stop fault → (old.stop ≡ GoesOn → ⊥) → FeedRefusal old piece new fault
 refused_again old new piece (Html at) s n = record { stopped = s; cause = λ bytes h. absurd (n h.goes_on) }
 refused_again old new piece (UnknownFunction at) s n = record { stopped = s; cause = λ bytes h. absurd (n h.goes_on) }
 refused_again old new piece (NoSuchId at id) s n = record { stopped = s; cause = λ bytes h. absurd (n h.goes_on) }

@@ -1,7 +1,7 @@
 -- Items before what follows them.
 use Rattle.std.proofs.Common.{◌≡◌, ℕ, List, [], ◌∷◌, ◌++◌, refl, ap, ◌∙◌, sym}
 use Rattle.fizz_text.specs.declared.attribute.Attr.{Attr}
-use Rattle.document_machine.specs.declared.kind.Kind.{Kind}
+use Rattle.document_machine.specs.declared.status.BoundaryStatus.{BoundaryStatus}
 use Rattle.document_machine.specs.declared.view.Item.{Item}
 use Rattle.document_machine.specs.declared.view.Item.TheVariants.{Element, Text, Boundary, rolls-Element, rolls-Text, rolls-Boundary}
 use Rattle.document_machine.specs.declared.view.Item.TheOpen.{Item-F, Element as element_layer, Text as text_layer, Boundary as boundary_layer}
@@ -19,7 +19,7 @@ pub placed-text : (t : List ℕ) (later : View) → placed (Text t) later ≡ te
 placed-text t later =
     ap (λ (i : Item). placed i later) (sym (rolls-Text t)) ∙ ap (λ (f : View → View). f later) (fold-roll-Item (View → View) placed_step (text_layer t))
 
-pub placed-boundary : (kind : Kind) (digest : List ℕ) (items : List Item) (later : View) → placed (Boundary kind digest items) later ≡ boundary kind digest (seen items) later
+pub placed-boundary : (kind : BoundaryStatus) (digest : List ℕ) (items : List Item) (later : View) → placed (Boundary kind digest items) later ≡ boundary kind digest (seen items) later
 placed-boundary kind digest items later =
     ap (λ (i : Item). placed i later) (sym (rolls-Boundary kind digest items))
     ∙ ap (λ (f : View → View). f later) (fold-roll-Item (View → View) placed_step (boundary_layer kind digest items))

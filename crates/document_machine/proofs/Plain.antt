@@ -7,7 +7,7 @@ use Rattle.dom_forest.specs.declared.document.DocNode.TheVariants as doc
 use Rattle.dom_forest.specs.declared.node.Mark.{Mark}
 use Rattle.dom_forest.specs.declared.node.Mark.TheVariants.{Complete, Pending, Client, End, Space}
 use Rattle.dom_forest.specs.declared.node.NewNode.TheVariants.{Element, Text, Comment}
-use Rattle.document_machine.specs.declared.kind.Kind.TheVariants as kind
+use Rattle.document_machine.specs.declared.status.BoundaryStatus.TheVariants as kind
 use Rattle.document_machine.specs.Plain.{IsPlain, plain_nodes, plain_view}
 use Rattle.document_machine.specs.Settled.{is_pending, nodes_of, number_of, settled_of}
 use Rattle.document_machine.specs.Views.{View, text, element, Levels, digest_after, is_left_out, levels_of, marked, opened, siblings_of, view_of, with_first}

@@ -2,7 +2,7 @@
 use Rattle.std.proofs.Common.{◌≡◌, ◌≢◌, ℕ, zero, suc, ◌+◌, ◌<◌, ◌==◌, eqb, false, if◌then◌else◌, Some, None, refl, sym, ap, ◌∙◌, subst, arith}
 use Rattle.std.proofs.lemmas.Bool.{cond-true, cond-false, eq-eqb, ne_eqb}
 use Rattle.dom_forest.specs.Forest.{Forest, empty, tree, times, from, first_id, first_later, later_of, next_of, IsThere}
-use Rattle.dom_forest.specs.Edits.{Numbered, IsNumbered, changed, without}
+use Rattle.dom_forest.specs.Edits.{DomState, IsNumbered, changed, without}
 use Rattle.document_machine.specs.Edits.{from_sibling, without_range}
 use Rattle.document_machine.proofs.Spots.{Spot, spot}
 use Rattle.document_machine.proofs.Shapes.{tops, tops_times}
@@ -14,7 +14,7 @@ abbrev pub cut_from : ℕ → ℕ → Forest → Forest
 cut_from node end forest = changed node (λ content kids later. from_sibling end (tree node content kids later)) forest
 
 -- Some of the siblings are gone, and the next to go is a node, or it is the end.
-pub record IsCut (first end : ℕ) (old : Numbered) (node : ℕ) (now : Numbered) : Type 0 where
+pub record IsCut (first end : ℕ) (old : DomState) (node : ℕ) (now : DomState) : Type 0 where
   pub numbered : IsNumbered now
   pub stands : 0 < tops end (from node now.forest)
   pub rest : cut_from node end now.forest ≡ (without_range first end old).forest
@@ -29,16 +29,16 @@ itself : (i : ℕ) → (if i == i then 1 else 0) ≡ suc zero
 itself i = cond-true (eqb i i) _ _ (eq-eqb i i refl)
 
 -- The spot of a node with siblings.
-pub spot_among : (j id : ℕ) (dom : Numbered) → IsNumbered dom → 0 < tops j (from id dom.forest) → Spot id dom.forest
+pub spot_among : (j id : ℕ) (dom : DomState) → IsNumbered dom → 0 < tops j (from id dom.forest) → Spot id dom.forest
 spot_among j id dom d h = spot id dom.forest (let there : 0 < times id dom.forest = there_among j id dom.forest h in omega (arith, d.once id))
 
 -- A node is none of its later siblings.
-past_itself : (j id : ℕ) (dom : Numbered) → IsNumbered dom → (s : Spot id dom.forest) → 0 < tops j s.later → (id == j) ≡ false
+past_itself : (j id : ℕ) (dom : DomState) → IsNumbered dom → (s : Spot id dom.forest) → 0 < tops j s.later → (id == j) ≡ false
 past_itself j id dom d s h =
     ne_eqb id j (λ same. let counted = ap (times id) s.is in
     absurd (omega (arith, counted, s.counts id (tree id s.content s.kids s.later), itself id, d.once id, tops_times j s.later, ap (λ n. times n s.later) same)))
 
-pub cut_start : (first end : ℕ) (old : Numbered) → IsNumbered old → IsThere end (from_sibling end (later_of first old.forest)) → IsCut first end old first old
+pub cut_start : (first end : ℕ) (old : DomState) → IsNumbered old → IsThere end (from_sibling end (later_of first old.forest)) → IsCut first end old first old
 cut_start first end old d h =
     let stands = stands_from end (later_of first old.forest) h in
     let among : 0 < tops end (from first old.forest) = later_among (from first old.forest) stands in
@@ -68,7 +68,7 @@ first_cut n end empty e = refl
 first_cut n end (tree i content kids later) e =
     let same : i ≡ n = cc in cond-true (eqb i n) _ _ (eq-eqb i n same) ∙ ap (λ k. from_sibling end (tree k content kids later)) (sym same)
 
-module _ (first end node : ℕ) (old now : Numbered) (x : IsCut first end old node now) where
+module _ (first end node : ℕ) (old now : DomState) (x : IsCut first end old node now) where
   abbrev here : Spot node now.forest
   here = spot_among end node now x.numbered x.stands
 
@@ -129,8 +129,8 @@ module _ (first end node : ℕ) (old now : Numbered) (x : IsCut first end old no
       ∙ ap here.around (cond-true (eqb node end) _ _ (eq-eqb node end same)) ∙ sym here.is in
       let forest_is : now.forest ≡ (without_range first end old).forest = sym whole ∙ x.rest in
       let next_is : now.next ≡ old.next = x.next in
-      ap (λ f. let d : Numbered = record { forest = f; next = now.next } in d) forest_is
-      ∙ ap (λ n. let d : Numbered = record { forest = (without_range first end old).forest; next = n } in d) next_is
+      ap (λ f. let d : DomState = record { forest = f; next = now.next } in d) forest_is
+      ∙ ap (λ n. let d : DomState = record { forest = (without_range first end old).forest; next = n } in d) next_is
 
   pub cut_there : node ≡ end → IsThere end now.forest
   cut_there same = subst (λ n. IsThere n now.forest) same (there_among end node now.forest x.stands)

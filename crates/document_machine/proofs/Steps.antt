@@ -2,10 +2,10 @@
 use Rattle.std.proofs.Common.{◌≡◌, ℕ, ◌<◌, List, [], ◌∷◌, length, reverse, Result, Ok, Err, OnOk, IfErr, refl, sym, ◌∙◌, subst, true≢false, false}
 use Rattle.std.proofs.lemmas.Slice.Eq.{bytes_eq-Decides}
 use Rattle.fizz_text.specs.declared.attribute.Attr.{Attr}
-use Rattle.html_read.specs.declared.token.Tok.{Tok}
-use Rattle.html_read.specs.declared.token.Tok.TheVariants as tok
-use Rattle.html_read.specs.declared.token.Said.{Said}
-use Rattle.dom_forest.specs.Edits.{Numbered, appended}
+use Rattle.html_read.specs.declared.token.Token.{Token}
+use Rattle.html_read.specs.declared.token.Token.TheVariants as tok
+use Rattle.html_read.specs.declared.token.CommentKind.{CommentKind}
+use Rattle.dom_forest.specs.Edits.{DomState, appended}
 use Rattle.dom_forest.specs.declared.node.NewNode.TheVariants.{Element, Text, Comment}
 use Rattle.fizz_instructions.specs.declared.instruction.Sent.{Sent}
 use Rattle.document_machine.specs.declared.building.OpenElement.{OpenElement}
@@ -13,9 +13,9 @@ use Rattle.document_machine.specs.declared.fault.MachineFault.{MachineFault}
 use Rattle.document_machine.specs.declared.fault.MachineFault.TheVariants.{Html, UnknownFunction, NoSuchId, NotBoundary, OutOfMemory}
 use Rattle.document_machine.specs.Documents.{Step, starts, ends, stands, says, marks, runs, most_open}
 use Rattle.document_machine.specs.Faults.{Refuses, closes_nothing, closes_another, opens_too_many, says_nothing, calls_unknown, misses, finds_no_boundary}
-use Rattle.document_machine.specs.Holding.{IsStepCause}
+use Rattle.document_machine.specs.MachineState.{IsStepCause}
 use Rattle.document_machine.specs.Paths.{IsOpenDocument}
-use Rattle.document_machine.specs.Running.{Building, ids_of, innermost, mark_of, with_node}
+use Rattle.document_machine.specs.Running.{PageState, ids_of, innermost, mark_of, with_node}
 use Rattle.document_machine.specs.Taking.{Closes, Follows, IsCloseRefusal, IsOpenRefusal, IsScriptRefusal, is_innermost}
 use Rattle.document_machine.proofs.OpenPaths.{document_closed}
 
@@ -33,20 +33,20 @@ ok_three (Ok v) P Q R S p q r f = f p q r
 ok_three (Err e) P Q R S p q r f = tt
 
 -- A step of the same state and token under other names.
-pub stepped : {A : Type 0} (result : Result A MachineFault) (prefix : List ℕ) (b c : Building) (t u : Tok) (new : Building) → b ≡ c → u ≡ t
+pub stepped : {A : Type 0} (result : Result A MachineFault) (prefix : List ℕ) (b c : PageState) (t u : Token) (new : PageState) → b ≡ c → u ≡ t
     → OnOk result (Step prefix b t new) → OnOk result (Step prefix c u new)
 stepped (Ok v) prefix b c t u new e f h = subst (λ x. Step prefix x u new) e (subst (λ x. Step prefix b x new) (sym f) h)
 stepped (Err e') prefix b c t u new e f h = tt
 
-pub caused : {A : Type 0} (result : Result A MachineFault) (prefix : List ℕ) (b c : Building) (t u : Tok) → b ≡ c → u ≡ t
+pub caused : {A : Type 0} (result : Result A MachineFault) (prefix : List ℕ) (b c : PageState) (t u : Token) → b ≡ c → u ≡ t
     → IfErr result (IsStepCause prefix b t) → IfErr result (IsStepCause prefix c u)
 caused (Ok v) prefix b c t u e f h = tt
 caused (Err e') prefix b c t u e f h = subst (λ x. IsStepCause prefix x u e') e (subst (λ x. IsStepCause prefix b x e') (sym f) h)
 
-abbrev pub built : Numbered → List OpenElement → Sent → Building
+abbrev pub built : DomState → List OpenElement → Sent → PageState
 built dom opened known = record { dom = dom; opened = opened; known = known }
 
-pub opens_step : (prefix : List ℕ) (dom new : Numbered) (opened after : List OpenElement) (known : Sent) (name : List ℕ) (attributes : List Attr) (from : ℕ)
+pub opens_step : (prefix : List ℕ) (dom new : DomState) (opened after : List OpenElement) (known : Sent) (name : List ℕ) (attributes : List Attr) (from : ℕ)
     → length opened < most_open → new ≡ appended (innermost opened) (Element name attributes) dom
     → after ≡ record { id = record { 0 = dom.next }; name = name } ∷ opened
     → Step prefix (built dom opened known) (tok.Start name attributes from) (built new after known)
@@ -55,7 +55,7 @@ opens_step prefix dom new opened after known name attributes from room e f =
     (subst (λ os. Step prefix (built dom opened known) (tok.Start name attributes from) (built (appended (innermost opened) (Element name attributes) dom) os known)) (sym f)
     (starts (built dom opened known) name attributes from room))
 
-pub open_cause : (prefix : List ℕ) (b : Building) (name : List ℕ) (attributes : List Attr) (from : ℕ) (e : MachineFault)
+pub open_cause : (prefix : List ℕ) (b : PageState) (name : List ℕ) (attributes : List Attr) (from : ℕ) (e : MachineFault)
     → IsOpenRefusal b.opened from e → IsStepCause prefix b (tok.Start name attributes from) e
 open_cause prefix b name attributes from (Html at) h =
     subst (λ n. Refuses prefix b (tok.Start name attributes from) (Html n)) (sym h.0) (opens_too_many b name attributes from h.1)
@@ -64,7 +64,7 @@ open_cause prefix b name attributes from (NoSuchId at id) h = absurd h
 open_cause prefix b name attributes from (NotBoundary at) h = absurd h
 open_cause prefix b name attributes from OutOfMemory h = tt
 
-pub ends_step : (prefix : List ℕ) (dom : Numbered) (opened after : List OpenElement) (known : Sent) (name : List ℕ) (from : ℕ)
+pub ends_step : (prefix : List ℕ) (dom : DomState) (opened after : List OpenElement) (known : Sent) (name : List ℕ) (from : ℕ)
     → Closes name opened after → Step prefix (built dom opened known) (tok.End name from) (built dom after known)
 ends_step prefix dom [] after known name from h = absurd (true≢false (sym h.0))
 ends_step prefix dom (inner ∷ outer) after known name from h =
@@ -73,18 +73,18 @@ ends_step prefix dom (inner ∷ outer) after known name from h =
     (subst (λ n. Step prefix (built dom (inner ∷ outer) known) (tok.End n from) (built dom outer known)) same
     (ends (built dom (inner ∷ outer) known) inner outer from refl))
 
-pub ends_document : (dom : Numbered) (opened after : List OpenElement) (name : List ℕ) → IsOpenDocument (ids_of opened) dom → Closes name opened after
+pub ends_document : (dom : DomState) (opened after : List OpenElement) (name : List ℕ) → IsOpenDocument (ids_of opened) dom → Closes name opened after
     → IsOpenDocument (ids_of after) dom
 ends_document dom [] after name h k = absurd (true≢false (sym k.0))
 ends_document dom (inner ∷ outer) after name h k =
     subst (λ os. IsOpenDocument (ids_of os) dom) (sym k.1) (document_closed inner outer dom h)
 
-close_refuses : (prefix : List ℕ) (b : Building) (opened : List OpenElement) (name : List ℕ) (from : ℕ) → b.opened ≡ opened → is_innermost name opened ≡ false
+close_refuses : (prefix : List ℕ) (b : PageState) (opened : List OpenElement) (name : List ℕ) (from : ℕ) → b.opened ≡ opened → is_innermost name opened ≡ false
     → Refuses prefix b (tok.End name from) (Html from)
 close_refuses prefix b [] name from e h = closes_nothing b name from e
 close_refuses prefix b (inner ∷ outer) name from e h = closes_another b name inner outer from e (λ same. true≢false (sym ((bytes_eq-Decides inner.name name).1 same) ∙ h))
 
-pub close_cause : (prefix : List ℕ) (b : Building) (name : List ℕ) (from : ℕ) (e : MachineFault) → IsCloseRefusal name b.opened from e
+pub close_cause : (prefix : List ℕ) (b : PageState) (name : List ℕ) (from : ℕ) (e : MachineFault) → IsCloseRefusal name b.opened from e
     → IsStepCause prefix b (tok.End name from) e
 close_cause prefix b name from (Html at) h =
     subst (λ n. Refuses prefix b (tok.End name from) (Html n)) (sym h.0) (close_refuses prefix b b.opened name from refl h.1)
@@ -93,22 +93,22 @@ close_cause prefix b name from (NoSuchId at id) h = absurd h
 close_cause prefix b name from (NotBoundary at) h = absurd h
 close_cause prefix b name from OutOfMemory h = absurd h
 
-pub void_step : (prefix : List ℕ) (b new : Building) (t : Tok) (name : List ℕ) (attributes : List Attr) (from : ℕ)
+pub void_step : (prefix : List ℕ) (b new : PageState) (t : Token) (name : List ℕ) (attributes : List Attr) (from : ℕ)
     → t ≡ tok.Void name attributes from → new ≡ with_node (Element name attributes) b → Step prefix b t new
 void_step prefix b new t name attributes from e f =
     subst (λ x. Step prefix b x new) (sym e) (subst (λ x. Step prefix b (tok.Void name attributes from) x) (sym f) (stands b name attributes from))
 
-pub text_step : (prefix : List ℕ) (b new : Building) (t : Tok) (text : List ℕ) (from : ℕ)
+pub text_step : (prefix : List ℕ) (b new : PageState) (t : Token) (text : List ℕ) (from : ℕ)
     → t ≡ tok.Text text from → new ≡ with_node (Text text) b → Step prefix b t new
 text_step prefix b new t text from e f =
     subst (λ x. Step prefix b x new) (sym e) (subst (λ x. Step prefix b (tok.Text text from) x) (sym f) (says b text from))
 
-pub comment_step : (prefix : List ℕ) (b new : Building) (t : Tok) (which : Said) (from : ℕ)
+pub comment_step : (prefix : List ℕ) (b new : PageState) (t : Token) (which : CommentKind) (from : ℕ)
     → t ≡ tok.Comment which from → new ≡ with_node (Comment (mark_of which)) b → Step prefix b t new
 comment_step prefix b new t which from e f =
     subst (λ x. Step prefix b x new) (sym e) (subst (λ x. Step prefix b (tok.Comment which from) x) (sym f) (marks b which from))
 
-pub script_step : (prefix : List ℕ) (dom new : Numbered) (opened slice : List OpenElement) (known learned : Sent) (body read : List ℕ) (from : ℕ)
+pub script_step : (prefix : List ℕ) (dom new : DomState) (opened slice : List OpenElement) (known learned : Sent) (body read : List ℕ) (from : ℕ)
     → slice ≡ opened → read ≡ body → Follows prefix read (ids_of (reverse slice)) dom known new learned
     → Step prefix (built dom (reverse opened) known) (tok.Script body from) (built new (reverse opened) learned)
 script_step prefix dom new opened slice known learned body read from e r f =
@@ -117,7 +117,7 @@ script_step prefix dom new opened slice known learned body read from e r f =
     (subst (λ k. Step prefix (built dom (reverse slice) known) (tok.Script read from) (built new (reverse slice) k)) (sym f.learned)
     (runs (built dom (reverse slice) known) read from f.instruction new f.said f.acts)))
 
-script_refuses : (prefix : List ℕ) (b : Building) (body : List ℕ) (from : ℕ) (e : MachineFault)
+script_refuses : (prefix : List ℕ) (b : PageState) (body : List ℕ) (from : ℕ) (e : MachineFault)
     → IsScriptRefusal prefix body (ids_of b.opened) b.dom b.known from e → IsStepCause prefix b (tok.Script body from) e
 script_refuses prefix b body from (Html at) h = subst (λ n. Refuses prefix b (tok.Script body from) (Html n)) (sym h.0) (says_nothing b body from h.1)
 script_refuses prefix b body from (UnknownFunction at) h = subst (λ n. Refuses prefix b (tok.Script body from) (UnknownFunction n)) (sym h.0) (calls_unknown b body from h.1)
@@ -127,7 +127,7 @@ script_refuses prefix b body from (NotBoundary at) h =
     subst (λ n. Refuses prefix b (tok.Script body from) (NotBoundary n)) (sym h.0) (finds_no_boundary b body from h.1.instruction h.1.said h.1.acts)
 script_refuses prefix b body from OutOfMemory h = tt
 
-pub script_cause : (prefix : List ℕ) (dom : Numbered) (opened slice : List OpenElement) (known : Sent) (body read : List ℕ) (from : ℕ) → slice ≡ opened → read ≡ body
+pub script_cause : (prefix : List ℕ) (dom : DomState) (opened slice : List OpenElement) (known : Sent) (body read : List ℕ) (from : ℕ) → slice ≡ opened → read ≡ body
     → (e : MachineFault) → IsScriptRefusal prefix read (ids_of (reverse slice)) dom known from e
     → IsStepCause prefix (built dom (reverse opened) known) (tok.Script body from) e
 script_cause prefix dom opened slice known body read from e r fault h =

@@ -12,9 +12,9 @@ pub mod Reveals
 pub mod Places
 pub mod Paths
 pub mod Printing
-pub mod Holding
+pub mod MachineState
 pub mod Stored
 pub mod Taking
 pub mod Ready
-pub mod Misses
+pub mod EditFailures
 pub mod Examples

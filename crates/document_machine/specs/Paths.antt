@@ -1,7 +1,7 @@
 -- The open elements of a document: each is the last of its siblings, and the innermost is where the next node goes.
 use Rattle.std.specs.Prelude.{◌≡◌, ℕ, List, [], ◌∷◌, reverse, Some}
 use Rattle.dom_forest.specs.Forest.{Forest, empty, tree, IsElement}
-use Rattle.dom_forest.specs.Edits.{Numbered, IsNumbered}
+use Rattle.dom_forest.specs.Edits.{DomState, IsNumbered}
 
 -- Elements, the outermost first, each the last of the siblings in the one before it.
 abbrev pub IsPath : List ℕ → Forest → Type 0
@@ -11,6 +11,6 @@ IsPath (o ∷ os) (tree i content kids empty) = (i ≡ o) × IsElement (Some con
 IsPath (o ∷ os) (tree i content kids (tree j other below later)) = IsPath (o ∷ os) (tree j other below later)
 
 -- A document with its open elements, the innermost first.
-pub record IsOpenDocument (opened : List ℕ) (dom : Numbered) : Type 0 where
+pub record IsOpenDocument (opened : List ℕ) (dom : DomState) : Type 0 where
   pub numbered : IsNumbered dom
   pub path : IsPath (reverse opened) dom.forest

@@ -6,19 +6,19 @@ use Rattle.html_names.specs.Escape.{escaped}
 use Rattle.html_names.specs.Printing.{tag_front, end_tag}
 use Rattle.html_read.specs.Tokens.{said, AreAttributes}
 use Rattle.html_read.specs.Names.{IsTagName}
-use Rattle.html_read.specs.declared.token.Said.{Said}
-use Rattle.html_read.specs.declared.token.Said.TheVariants as said
+use Rattle.html_read.specs.declared.token.CommentKind.{CommentKind}
+use Rattle.html_read.specs.declared.token.CommentKind.TheVariants as said
 use Rattle.dom_forest.specs.Printing.{is_void}
 use Rattle.dom_forest.specs.Forest.{Forest, empty, tree, count}
-use Rattle.dom_forest.specs.Edits.{Numbered, with_last, renumbered}
+use Rattle.dom_forest.specs.Edits.{DomState, with_last, renumbered}
 use Rattle.dom_forest.specs.declared.node.Mark.{Mark}
 use Rattle.dom_forest.specs.declared.node.Mark.TheVariants.{Complete, Pending, Client, End, Space}
 use Rattle.dom_forest.specs.declared.node.NodeId.{NodeId}
 use Rattle.dom_forest.specs.declared.node.NewNode.TheVariants.{Element, Text, Comment}
-use Rattle.document_machine.specs.Running.{Building, innermost}
+use Rattle.document_machine.specs.Running.{PageState, innermost}
 
 -- what is said by a comment
-abbrev pub said_of : Mark → Said
+abbrev pub said_of : Mark → CommentKind
 said_of Complete = said.Complete
 said_of Pending = said.Pending
 said_of Client = said.Client
@@ -58,12 +58,12 @@ MayPrint (tree i (Text text) kids later) after_text room =
 MayPrint (tree i (Comment mark) kids later) after_text room = HasNoNode kids × MayPrint later false room
 
 -- The document with more nodes at the end of an element, or at the end for None. They get new ids in document order.
-abbrev pub with_nodes : Option NodeId → Forest → Numbered → Numbered
+abbrev pub with_nodes : Option NodeId → Forest → DomState → DomState
 with_nodes parent more dom = record {
   forest = with_last parent (renumbered dom.next more) dom.forest;
   next = dom.next + count more;
 }
 
 -- with more nodes at the end of the innermost open element
-abbrev pub with_forest : Forest → Building → Building
+abbrev pub with_forest : Forest → PageState → PageState
 with_forest more b = record b { dom = with_nodes (innermost b.opened) more b.dom }

@@ -2,28 +2,28 @@
 use Rattle.std.specs.Prelude.{◌≡◌, ◌≢◌, ℕ, ◌+◌, ◌-◌, ◌^◌, Bool, true, false, ◌==◌, if◌then◌else◌, List, [], ◌∷◌, ◌++◌, Option, Some, None, min}
 use Rattle.dom_forest.specs.declared.document.DocNode.{DocNode}
 use Rattle.dom_forest.specs.declared.document.DocNode.TheVariants as doc
-use Rattle.document_machine.specs.declared.kind.Kind.{Kind}
-use Rattle.document_machine.specs.declared.kind.Kind.TheVariants as kind
+use Rattle.document_machine.specs.declared.status.BoundaryStatus.{BoundaryStatus}
+use Rattle.document_machine.specs.declared.status.BoundaryStatus.TheVariants as kind
 use Rattle.document_machine.specs.declared.view.Counts.{Counts}
 use Rattle.document_machine.specs.declared.view.SettledRefused.{SettledRefused}
 use Rattle.document_machine.specs.declared.view.SettledRefused.TheVariants.{StillPending, OutOfMemory}
 use Rattle.document_machine.specs.Views.{View, end, text, element, boundary}
 
-abbrev pub any_kind : Kind → Bool
+abbrev pub any_kind : BoundaryStatus → Bool
 any_kind k = true
 
-abbrev pub is_failed : Kind → Bool
+abbrev pub is_failed : BoundaryStatus → Bool
 is_failed kind.Complete = false
 is_failed kind.Pending = false
 is_failed kind.Client = true
 
-abbrev pub is_pending : Kind → Bool
+abbrev pub is_pending : BoundaryStatus → Bool
 is_pending kind.Complete = false
 is_pending kind.Pending = true
 is_pending kind.Client = false
 
 -- How many boundaries of some kinds there are, nested ones included.
-abbrev pub number_of : (Kind → Bool) → View → ℕ
+abbrev pub number_of : (BoundaryStatus → Bool) → View → ℕ
 number_of of_kind end = 0
 number_of of_kind (text t later) = number_of of_kind later
 number_of of_kind (element name attributes items later) = number_of of_kind items + number_of of_kind later
@@ -31,7 +31,7 @@ number_of of_kind (boundary k digest items later) =
     (if of_kind k then 1 else 0) + (number_of of_kind items + number_of of_kind later)
 
 -- A count stays at the greatest number of 64 bits.
-abbrev pub counted : (Kind → Bool) → View → ℕ
+abbrev pub counted : (BoundaryStatus → Bool) → View → ℕ
 counted of_kind view = min (number_of of_kind view) (2 ^ 64 - 1)
 
 -- The elements and texts, those of each boundary in its place.

@@ -2,8 +2,8 @@
 use Rattle.std.specs.Prelude.{ℕ, ◌+◌, ◌-◌, ◌*◌, ◌^◌, ◌≤◌, List, [], ◌∷◌, ◌++◌, min}
 use Rattle.dom_forest.specs.declared.document.DocNode.{DocNode}
 use Rattle.dom_forest.specs.declared.document.DocNode.TheVariants as doc
-use Rattle.document_machine.specs.declared.kind.Kind.{Kind}
-use Rattle.document_machine.specs.declared.kind.Kind.TheVariants as kind
+use Rattle.document_machine.specs.declared.status.BoundaryStatus.{BoundaryStatus}
+use Rattle.document_machine.specs.declared.status.BoundaryStatus.TheVariants as kind
 use Rattle.document_machine.specs.declared.settling.Begun.{Begun}
 use Rattle.document_machine.specs.declared.settling.Begun.TheVariants.{Element, Boundary}
 use Rattle.document_machine.specs.declared.settling.Frame.{Frame}
@@ -30,7 +30,7 @@ added view c = record {
 }
 
 -- the counts with one boundary
-abbrev pub one_counted : Kind → Counts → Counts
+abbrev pub one_counted : BoundaryStatus → Counts → Counts
 one_counted kind.Complete c = record c { boundaries = raised 1 c.boundaries }
 one_counted kind.Pending c = record c { boundaries = raised 1 c.boundaries; pending = raised 1 c.pending }
 one_counted kind.Client c = record c { boundaries = raised 1 c.boundaries; failed = raised 1 c.failed }

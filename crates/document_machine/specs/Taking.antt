@@ -1,21 +1,21 @@
 -- What the parts of a step do and why they refuse, for its private functions.
 use Rattle.std.specs.Str.{bytes_eq}
 use Rattle.std.specs.Prelude.{◌≡◌, ◌≢◌, Option, Some, None, ℕ, ◌+◌, ◌≤◌, Bool, true, false, drop, List, [], ◌∷◌, ◌++◌, length, Ok, Err}
-use Rattle.dom_forest.specs.Edits.{Numbered}
+use Rattle.dom_forest.specs.Edits.{DomState}
 use Rattle.fizz_instructions.specs.Bodies.{function_of}
 use Rattle.fizz_instructions.specs.Sending.{with_function}
 use Rattle.fizz_instructions.specs.Reading.{Says, IsNoBody, CallsUnknown}
 use Rattle.fizz_instructions.specs.declared.instruction.Instruction.{Instruction}
 use Rattle.fizz_instructions.specs.declared.instruction.Sent.{Sent}
-use Rattle.html_read.specs.declared.token.Tok.{Tok}
-use Rattle.html_read.specs.declared.token.Tok.TheVariants as tok
-use Rattle.html_read.specs.Reading.{Held, HasRead, IsOpenText, IsTextSoFar}
+use Rattle.html_read.specs.declared.token.Token.{Token}
+use Rattle.html_read.specs.declared.token.Token.TheVariants as tok
+use Rattle.html_read.specs.Reading.{ReaderState, HasRead, IsOpenText, IsTextSoFar}
 use Rattle.document_machine.specs.declared.building.OpenElement.{OpenElement}
 use Rattle.document_machine.specs.declared.edits.EditFault.{EditFault}
 use Rattle.document_machine.specs.declared.edits.EditFault.TheVariants as edit
 use Rattle.document_machine.specs.declared.fault.MachineFault.{MachineFault}
 use Rattle.document_machine.specs.declared.fault.MachineFault.TheVariants.{Html, UnknownFunction, NoSuchId, NotBoundary, OutOfMemory}
-use Rattle.document_machine.specs.Running.{Building, at_first, acted}
+use Rattle.document_machine.specs.Running.{PageState, at_first, acted}
 use Rattle.document_machine.specs.Documents.{Runs, LeavesNoRest, Steps, most_open}
 use Rattle.document_machine.specs.Faults.{Refuses, HasMachineFault}
 
@@ -44,36 +44,36 @@ IsCloseRefusal name opened from (NotBoundary at) = ⊥
 IsCloseRefusal name opened from OutOfMemory = ⊥
 
 -- A script's instruction was said and followed.
-pub record Follows (prefix body opened : List ℕ) (dom : Numbered) (known : Sent) (dom' : Numbered) (known' : Sent) : Type 0 where
+pub record Follows (prefix body opened : List ℕ) (dom : DomState) (known : Sent) (dom' : DomState) (known' : Sent) : Type 0 where
   pub instruction : Instruction
   pub said : Says prefix body known instruction
   pub acts : acted prefix opened instruction dom ≡ Ok dom'
   pub learned : known' ≡ with_function known (function_of instruction)
 
 -- It was said, and the document lacks what it needs.
-pub record Misses (prefix body opened : List ℕ) (dom : Numbered) (known : Sent) (fault : EditFault) : Type 0 where
+pub record FailsToApply (prefix body opened : List ℕ) (dom : DomState) (known : Sent) (fault : EditFault) : Type 0 where
   pub instruction : Instruction
   pub said : Says prefix body known instruction
   pub acts : acted prefix opened instruction dom ≡ Err fault
 
-abbrev pub IsScriptRefusal : List ℕ → List ℕ → List ℕ → Numbered → Sent → ℕ → MachineFault → Type 0
+abbrev pub IsScriptRefusal : List ℕ → List ℕ → List ℕ → DomState → Sent → ℕ → MachineFault → Type 0
 IsScriptRefusal prefix body opened dom known from (Html at) = (at ≡ from) × IsNoBody prefix body
 IsScriptRefusal prefix body opened dom known from (UnknownFunction at) = (at ≡ from) × CallsUnknown prefix body known
-IsScriptRefusal prefix body opened dom known from (NoSuchId at id) = (at ≡ from) × Misses prefix body opened dom known (edit.NoSuchId id)
-IsScriptRefusal prefix body opened dom known from (NotBoundary at) = (at ≡ from) × Misses prefix body opened dom known edit.NotBoundary
+IsScriptRefusal prefix body opened dom known from (NoSuchId at id) = (at ≡ from) × FailsToApply prefix body opened dom known (edit.NoSuchId id)
+IsScriptRefusal prefix body opened dom known from (NotBoundary at) = (at ≡ from) × FailsToApply prefix body opened dom known edit.NotBoundary
 IsScriptRefusal prefix body opened dom known from OutOfMemory = Unit {0}
 
 -- Some tokens were followed, and the next was not.
-pub record StopsIn (prefix : List ℕ) (built : Building) (toks : List Tok) (fault : MachineFault) : Type 0 where
-  pub before : List Tok
-  pub stop : Tok
-  pub after : List Tok
-  pub now : Building
+pub record StopsIn (prefix : List ℕ) (built : PageState) (toks : List Token) (fault : MachineFault) : Type 0 where
+  pub before : List Token
+  pub stop : Token
+  pub after : List Token
+  pub now : PageState
   pub are : toks ≡ before ++ stop ∷ after
   pub steps : Steps prefix built before now
   pub refuses : Refuses prefix now stop fault
 
-abbrev pub IsTakingCause : List ℕ → Building → List Tok → MachineFault → Type 0
+abbrev pub IsTakingCause : List ℕ → PageState → List Token → MachineFault → Type 0
 IsTakingCause prefix built toks (Html at) = StopsIn prefix built toks (Html at)
 IsTakingCause prefix built toks (UnknownFunction at) = StopsIn prefix built toks (UnknownFunction at)
 IsTakingCause prefix built toks (NoSuchId at id) = StopsIn prefix built toks (NoSuchId at id)
@@ -81,16 +81,16 @@ IsTakingCause prefix built toks (NotBoundary at) = StopsIn prefix built toks (No
 IsTakingCause prefix built toks OutOfMemory = Unit {0}
 
 -- A reader was fed the bytes, and their tokens were followed.
-pub record Went (prefix bytes : List ℕ) (reader : Held) (built : Building) : Type 0 where
-  pub toks : List Tok
+pub record Went (prefix bytes : List ℕ) (reader : ReaderState) (built : PageState) : Type 0 where
+  pub toks : List Token
   pub read : HasRead bytes toks reader
   pub steps : Steps prefix at_first toks built
 
 -- The bytes have the fault with the next piece, whatever they are.
-abbrev pub Finds : List ℕ → Held → Building → List ℕ → MachineFault → Type 0
+abbrev pub Finds : List ℕ → ReaderState → PageState → List ℕ → MachineFault → Type 0
 Finds prefix reader built piece fault = (bytes : List ℕ) → Went prefix bytes reader built → HasMachineFault prefix at_first (bytes ++ piece) fault
 
-abbrev pub IsPieceCause : List ℕ → Held → Building → List ℕ → MachineFault → Type 0
+abbrev pub IsPieceCause : List ℕ → ReaderState → PageState → List ℕ → MachineFault → Type 0
 IsPieceCause prefix reader built piece (Html at) = Finds prefix reader built piece (Html at)
 IsPieceCause prefix reader built piece (UnknownFunction at) = Finds prefix reader built piece (UnknownFunction at)
 IsPieceCause prefix reader built piece (NoSuchId at id) = Finds prefix reader built piece (NoSuchId at id)
@@ -98,13 +98,13 @@ IsPieceCause prefix reader built piece (NotBoundary at) = Finds prefix reader bu
 IsPieceCause prefix reader built piece OutOfMemory = Unit {0}
 
 -- The bytes run to what is built, and leave no rest.
-pub record RunsToEnd (prefix bytes : List ℕ) (built : Building) : Type 0 where
+pub record RunsToEnd (prefix bytes : List ℕ) (built : PageState) : Type 0 where
   pub run : Runs prefix at_first bytes built
   pub no_rest : LeavesNoRest run
 
 -- The bytes end in a rest that is no token, which begins at the place.
 pub record LeavesRest (prefix bytes : List ℕ) (at : ℕ) : Type 0 where
-  pub built : Building
+  pub built : PageState
   pub run : Runs prefix at_first bytes built
   pub no_text : run.last ≡ []
   pub some : run.rest ≢ []
@@ -118,6 +118,6 @@ IsEndCause prefix bytes (NotBoundary at) = ⊥
 IsEndCause prefix bytes OutOfMemory = Unit {0}
 
 -- The text that has not ended, or none.
-abbrev pub IsTextNow : Held → Option (List ℕ) → Type 0
+abbrev pub IsTextNow : ReaderState → Option (List ℕ) → Type 0
 IsTextNow reader None = IsTextSoFar reader None
 IsTextNow reader (Some text) = (from : ℕ) × IsOpenText reader (tok.Text text from)

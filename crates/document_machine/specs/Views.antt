@@ -8,15 +8,15 @@ use Rattle.dom_forest.specs.Forest.{Forest, empty, tree}
 use Rattle.dom_forest.specs.declared.node.Mark.{Mark}
 use Rattle.dom_forest.specs.declared.node.Mark.TheVariants.{Complete, Pending, Client, End, Space}
 use Rattle.dom_forest.specs.declared.node.NewNode.TheVariants.{Element, Text, Comment}
-use Rattle.document_machine.specs.declared.kind.Kind.{Kind}
-use Rattle.document_machine.specs.declared.kind.Kind.TheVariants as kind
+use Rattle.document_machine.specs.declared.status.BoundaryStatus.{BoundaryStatus}
+use Rattle.document_machine.specs.declared.status.BoundaryStatus.TheVariants as kind
 
 -- Siblings as they are seen: none, or a first one with those after it.
 pub data View : Type 0 where
   end : View
   text : List ℕ → View → View
   element : List ℕ → List Attr → View → View → View
-  boundary : Kind → List ℕ → View → View → View
+  boundary : BoundaryStatus → List ℕ → View → View → View
 
 abbrev pub followed : View → View → View
 followed end after = after
@@ -62,7 +62,7 @@ abbrev pub ended : Levels → Levels
 ended levels = record { first = end; rest = levels.first ∷ levels.rest }
 
 -- A boundary takes what stands up to its `/$`; where none follows, it runs to the end of its siblings.
-abbrev pub opened : Kind → List ℕ → View → List View → Levels
+abbrev pub opened : BoundaryStatus → List ℕ → View → List View → Levels
 opened kind digest items [] = record { first = boundary kind digest items end; rest = [] }
 opened kind digest items (after ∷ rest) = record { first = boundary kind digest items after; rest = rest }
 

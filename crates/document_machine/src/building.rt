@@ -1,13 +1,13 @@
 //! A page that is being built.
 
 ghost use Rattle.std.specs.Prelude.{◌≡◌, ◌<◌, ◌∷◌, ℕ, IfErr, IfOk, List, OnOk, length, nat_lt, reverse};
-ghost use Rattle.dom_forest.specs.Edits.{Numbered, appended};
+ghost use Rattle.dom_forest.specs.Edits.{DomState, appended};
 ghost use Rattle.dom_forest.specs.declared.node.NewNode.TheVariants.{Element};
 ghost use Rattle.fizz_instructions.specs.Bodies.{function_of};
 ghost use Rattle.fizz_instructions.specs.Reading.{Says};
 ghost use Rattle.fizz_instructions.specs.Sending.{with_function};
 ghost use Rattle.document_machine.specs.Documents.{Step, most_open};
-ghost use Rattle.document_machine.specs.Holding.{IsStepCause};
+ghost use Rattle.document_machine.specs.MachineState.{IsStepCause};
 ghost use Rattle.document_machine.specs.Paths.{IsOpenDocument};
 ghost use Rattle.document_machine.specs.Running.{at_first, ids_of, innermost, mark_of, with_node};
 ghost use Rattle.document_machine.specs.Taking.{Closes, Follows, IsCloseRefusal, IsOpenRefusal, IsScriptRefusal, is_innermost};
@@ -18,7 +18,7 @@ use crate::fault::MachineFault;
 use dom_forest::{Dom, Mark, NewNode, NodeId};
 use fizz_instructions::{BodyFault, Instruction, Sent, read_script_body};
 use fizz_text::{Attributes, OutOfMemory, Text};
-use html_read::{Body, Said, Tok};
+use html_read::{Body, CommentKind, Token};
 use std::alloc::Global;
 use std::marker::Model;
 
@@ -43,10 +43,10 @@ pub(crate) struct Page {
 
 impl Model for Page {
     ghost use Rattle.std.specs.Prelude.{reverse};
-    ghost use Rattle.document_machine.specs.Running.{Building};
+    ghost use Rattle.document_machine.specs.Running.{PageState};
     ghost use Rattle.document_machine.specs.Stored.{building_code};
 
-    ghost Value = { Building };
+    ghost Value = { PageState };
 
     ghost coded = { building_code };
 
@@ -101,7 +101,7 @@ impl Page {
         &mut self,
         alloc: Global,
         prefix: &Text,
-        token: Tok,
+        token: Token,
     ) -> Result<(), MachineFault>
         requires { IsOpenDocument (ids_of self.old.opened) self.old.dom }
         ensures step { OnOk result (Step prefix.now self.old token self.new) }
@@ -109,7 +109,7 @@ impl Page {
         ensures document { OnOk result (IsOpenDocument (ids_of self.new.opened) self.new.dom) }
     {
         match token {
-            Tok::Start {
+            Token::Start {
                 name,
                 attributes,
                 from,
@@ -121,15 +121,15 @@ impl Page {
                 attributes,
                 from,
             ),
-            Tok::End { name, from } => close(&mut self.opened, name, from),
-            Tok::Void {
+            Token::End { name, from } => close(&mut self.opened, name, from),
+            Token::Void {
                 name,
                 attributes,
                 ..
             } => self.add(NewNode::Element { name, attributes }),
-            Tok::Text { text, .. } => self.add(NewNode::Text(text)),
-            Tok::Comment { which, .. } => self.add(NewNode::Comment(mark_of(which))),
-            Tok::Script { body, from } => {
+            Token::Text { text, .. } => self.add(NewNode::Text(text)),
+            Token::Comment { which, .. } => self.add(NewNode::Comment(mark_of(which))),
+            Token::Script { body, from } => {
                 run(
                     alloc,
                     &mut self.dom,
@@ -153,15 +153,15 @@ fn innermost(opened: &[OpenElement]) -> Option<NodeId>
     }
 }
 
-fn mark_of(which: Said) -> Mark
+fn mark_of(which: CommentKind) -> Mark
     ensures { result ≡ mark_of which }
 {
     match which {
-        Said::Complete => Mark::Complete,
-        Said::Pending => Mark::Pending,
-        Said::Client => Mark::Client,
-        Said::End => Mark::End,
-        Said::Space => Mark::Space,
+        CommentKind::Complete => Mark::Complete,
+        CommentKind::Pending => Mark::Pending,
+        CommentKind::Client => Mark::Client,
+        CommentKind::End => Mark::End,
+        CommentKind::Space => Mark::Space,
     }
 }
 
@@ -266,7 +266,7 @@ fn read(
 ) -> Result<Instruction, MachineFault>
     ensures said { IfOk result (λ i. Says prefix.now body.now known.old i) }
     ensures learned { IfOk result (λ i. known.new ≡ with_function known.old (function_of i)) }
-    ensures refused { (opened : List ℕ) (dom : Numbered) → IfErr result (IsScriptRefusal prefix.now body.now opened dom known.old from) }
+    ensures refused { (opened : List ℕ) (dom : DomState) → IfErr result (IsScriptRefusal prefix.now body.now opened dom known.old from) }
 {
     match read_script_body(alloc, body, prefix, known) {
         Ok(instruction) => Ok(instruction),

@@ -2,13 +2,13 @@
 
 ghost use Rattle.std.specs.Prelude.{◌≡◌, ◌==◌, nat_lt, not, ℕ, IfErr, IfOk, IfSome, IsTrue, OnOk, Ok, Some, reverse};
 ghost use Rattle.std.specs.List.{list_any};
-ghost use Rattle.dom_forest.specs.Edits.{IsNumbered, Numbered, inner_of, part_of, with_before, without};
+ghost use Rattle.dom_forest.specs.Edits.{IsNumbered, DomState, inner_of, part_of, with_before, without};
 ghost use Rattle.dom_forest.specs.Forest.{IsComment, IsElement, IsThere, content_of, first_tree, from, later_of, times};
 ghost use Rattle.dom_forest.specs.Ids.{element_with};
 ghost use Rattle.dom_forest.specs.Seen.{number as number_of};
 ghost use Rattle.fizz_instructions.specs.Bodies.{id_of};
 ghost use Rattle.document_machine.specs.Edits.{IsEditCause, client_render, client_render_from, closed_with, complete_boundary, fill_placeholder, from_sibling, marker_of, reveal, unless_open, waiting, with_children_before, with_digest_unless_empty, without_range};
-ghost use Rattle.document_machine.specs.Misses.{IsMiss};
+ghost use Rattle.document_machine.specs.EditFailures.{IsNotFound};
 ghost use Rattle.document_machine.specs.Paths.{IsOpenDocument};
 ghost use Rattle.document_machine.specs.Running.{acted, ids_of};
 
@@ -86,9 +86,9 @@ fn complete(
 /// Puts what were the children of a container into the boundary of a template, in place of what stands there.
 fn show(dom: &mut Dom, template: NodeId, children: Dom) -> Result<(), EditFault>
     requires { IsNumbered dom.old }
-    ensures ok { OnOk result ((container : ℕ) (old : Numbered) → children ≡ inner_of (part_of container old)
+    ensures ok { OnOk result ((container : ℕ) (old : DomState) → children ≡ inner_of (part_of container old)
         → reveal container old dom.old (Some template.0) ≡ Ok dom.new) }
-    ensures refused { IfErr result (λ e. (container : ℕ) (old : Numbered) → IsEditCause (reveal container old dom.old (Some template.0)) e) }
+    ensures refused { IfErr result (λ e. (container : ℕ) (old : DomState) → IsEditCause (reveal container old dom.old (Some template.0)) e) }
 {
     let Some(marker) = find_marker(dom, template) else {
         return Err(EditFault::NotBoundary);
@@ -202,7 +202,7 @@ fn find_closed(
     requires { IsNumbered dom.now }
     ensures found { IfOk result (λ node. closed_with (ids_of (reverse opened.now)) (id_of prefix.now mark.now number) dom.now.forest ≡ Some node.0) }
     ensures element { IfOk result (λ node. IsElement (content_of node.0 dom.now.forest)) }
-    ensures refused { IfErr result (IsMiss (id_of prefix.now mark.now number)
+    ensures refused { IfErr result (IsNotFound (id_of prefix.now mark.now number)
         (closed_with (ids_of (reverse opened.now)) (id_of prefix.now mark.now number) dom.now.forest)) }
 {
     let id = id_text(alloc, prefix, mark, number)?;

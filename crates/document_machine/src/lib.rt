@@ -5,11 +5,11 @@
 mod building;
 mod edits;
 mod fault;
-mod kind;
 mod laws;
 mod left_out;
 mod machine;
 mod settling;
+mod status;
 mod stop;
 #[cfg(test)]
 mod tests;
@@ -18,8 +18,8 @@ mod view_laws;
 mod viewing;
 
 pub use fault::MachineFault;
-pub use kind::Kind;
 pub use laws::{laws_of_documents, laws_of_printing};
 pub use machine::Machine;
+pub use status::BoundaryStatus;
 pub use view::{Counts, Item, SettledRefused, View};
 pub use view_laws::laws_of_views;

@@ -1,11 +1,11 @@
 //! The machine: the bytes of a page in pieces of any length, and the document that they leave.
 
 ghost use Rattle.std.specs.Prelude.{◌≡◌, ◌<◌, ◌≤◌, ◌+◌, ◌++◌, ◌^◌, ℕ, List, [], IfErr, IfOk, IsErr, OnOk, length};
-ghost use Rattle.html_read.specs.declared.token.Tok.{Tok as Token};
+ghost use Rattle.html_read.specs.declared.token.Token.{Token};
 ghost use Rattle.document_machine.specs.declared.fault.MachineFault.TheVariants.{OutOfMemory as Memory};
 ghost use Rattle.document_machine.specs.declared.stop.Stop.TheVariants.{NoMemory};
 ghost use Rattle.document_machine.specs.Documents.{Steps};
-ghost use Rattle.document_machine.specs.Holding.{AnswersAgain, FeedRefusal, FinishRefusal, HasRun, IsSound, Sees, SeesWhole, fed, nothing_run};
+ghost use Rattle.document_machine.specs.MachineState.{AnswersAgain, FeedRefusal, FinishRefusal, HasRun, IsSound, Sees, SeesWhole, fed, nothing_run};
 ghost use Rattle.document_machine.specs.Paths.{IsOpenDocument};
 ghost use Rattle.document_machine.specs.Running.{ids_of, with_node};
 ghost use Rattle.document_machine.specs.Shown.{seen};
@@ -20,7 +20,7 @@ use crate::view::View;
 use crate::viewing::view_of;
 use dom_forest::NewNode;
 use fizz_text::{OutOfMemory, Text};
-use html_read::{FinishFault, ReadFault, Reader, Tok};
+use html_read::{FinishFault, ReadFault, Reader, Token};
 use std::alloc::Global;
 use std::marker::Model;
 
@@ -37,10 +37,10 @@ pub struct Machine {
 }
 
 impl Model for Machine {
-    ghost use Rattle.document_machine.specs.Holding.{Holding};
+    ghost use Rattle.document_machine.specs.MachineState.{MachineState};
     ghost use Rattle.document_machine.specs.Stored.{holding_code};
 
-    ghost Value = { Holding };
+    ghost Value = { MachineState };
 
     ghost coded = { holding_code };
 
@@ -145,7 +145,7 @@ fn text_so_far(reader: &Reader) -> Result<Option<Text>, OutOfMemory>
     ensures { IfOk result (IsTextNow reader.now) }
 {
     match reader.open_text()? {
-        Some(Tok::Text { text, .. }) => Ok(Some(text)),
+        Some(Token::Text { text, .. }) => Ok(Some(text)),
         _ => Ok(None),
     }
 }
@@ -191,7 +191,7 @@ fn follow_all(
     alloc: Global,
     prefix: &Text,
     page: &mut Page,
-    tokens: Vec<Tok>,
+    tokens: Vec<Token>,
 ) -> Result<(), MachineFault>
     requires { IsOpenDocument (ids_of page.old.opened) page.old.dom }
     ensures steps { OnOk result (Steps prefix.now page.old tokens.items page.new) }

@@ -6,7 +6,7 @@ ghost use Rattle.document_machine.specs.Settled.{nodes_of};
 ghost use Rattle.document_machine.specs.Settling.{added, closed, completed, one_counted, turns};
 ghost use Rattle.document_machine.specs.Shown.{seen};
 
-use crate::kind::Kind;
+use crate::status::BoundaryStatus;
 use crate::view::{Counts, Item};
 use dom_forest::DocNode;
 use fizz_text::{Attributes, OutOfMemory, Text};
@@ -30,14 +30,14 @@ pub(crate) fn add_counts(counts: &mut Counts, items: &[Item])
     }
 }
 
-fn add_boundary(counts: &mut Counts, kind: Kind)
+fn add_boundary(counts: &mut Counts, kind: BoundaryStatus)
     ensures { counts.new ≡ one_counted kind counts.old }
 {
     counts.boundaries = counts.boundaries.saturating_add(1);
     match kind {
-        Kind::Complete => {}
-        Kind::Pending => counts.pending = counts.pending.saturating_add(1),
-        Kind::Client => counts.failed = counts.failed.saturating_add(1),
+        BoundaryStatus::Complete => {}
+        BoundaryStatus::Pending => counts.pending = counts.pending.saturating_add(1),
+        BoundaryStatus::Client => counts.failed = counts.failed.saturating_add(1),
     }
 }
 

@@ -1,7 +1,7 @@
 //! Whether a machine goes on.
 
 ghost use Rattle.std.specs.Prelude.{◌≡◌, ◌≢◌, IfErr, OnErr, OnOk};
-ghost use Rattle.document_machine.specs.Holding.{AnswersAgain, IsMet, IsSameOrMemory, IsStopped};
+ghost use Rattle.document_machine.specs.MachineState.{AnswersAgain, IsMet, IsSameOrMemory, IsStopped};
 
 use crate::fault::MachineFault;
 use std::alloc::Global;

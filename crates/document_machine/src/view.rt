@@ -5,8 +5,8 @@ ghost use Rattle.document_machine.specs.declared.view.SettledRefused.TheVariants
 ghost use Rattle.document_machine.specs.Settled.{IsSettledCause, counts_of, settled_of};
 ghost use Rattle.document_machine.specs.Shown.{seen};
 
-use crate::kind::Kind;
 use crate::settling::{add_counts, nodes_of};
+use crate::status::BoundaryStatus;
 use dom_forest::Doc;
 use fizz_text::{Attributes, OutOfMemory, Text};
 use sqlite_items::Items;
@@ -58,7 +58,7 @@ pub enum Item {
     Text(Text),
     /// A boundary with what it shows. The digest is that of the error for which the content failed, and else empty.
     Boundary {
-        kind: Kind,
+        kind: BoundaryStatus,
         digest: Text,
         items: Items<Item>,
     },

@@ -9,8 +9,8 @@ ghost use Rattle.document_machine.specs.Shown.{seen};
 ghost use Rattle.document_machine.specs.Views.{Levels, digest_after, ended, marked, opened, siblings_of, view_of};
 ghost use Rattle.document_machine.specs.Viewing.{after_frame, all_enclosed, completed, completed_from, enclosed, frame_turns, frames_turns, inside, nodes_from, turns};
 
-use crate::kind::Kind;
 use crate::left_out::{digest_in, is_left_out, is_template};
+use crate::status::BoundaryStatus;
 use crate::view::{Item, View};
 use dom_forest::{Dom, DomNode, Mark, NodeId, laws_of_walks};
 use fizz_text::{Attr, Attributes, OutOfMemory, Text};
@@ -31,7 +31,7 @@ enum Frame {
         before: Items<Item>,
     },
     Boundary {
-        kind: Kind,
+        kind: BoundaryStatus,
         digest: Text,
         before: Items<Item>,
     },
@@ -174,11 +174,11 @@ fn pass_mark(
     ensures less { OnOk result (frames_turns dom.now.forest walk.new.frames ≤ frames_turns dom.now.forest walk.old.frames + 2) }
 {
     match mark {
-        Mark::Complete => open_boundary(alloc, walk, Kind::Complete, Text::fixed("")),
-        Mark::Pending => open_boundary(alloc, walk, Kind::Pending, Text::fixed("")),
+        Mark::Complete => open_boundary(alloc, walk, BoundaryStatus::Complete, Text::fixed("")),
+        Mark::Pending => open_boundary(alloc, walk, BoundaryStatus::Pending, Text::fixed("")),
         Mark::Client => {
             let digest = digest_after(alloc, dom, later)?;
-            open_boundary(alloc, walk, Kind::Client, digest)
+            open_boundary(alloc, walk, BoundaryStatus::Client, digest)
         }
         Mark::End => end_boundary(walk),
         Mark::Space => Ok(()),
@@ -188,7 +188,7 @@ fn pass_mark(
 fn open_boundary(
     alloc: Global,
     walk: &mut Walk,
-    kind: Kind,
+    kind: BoundaryStatus,
     digest: Text,
 ) -> Result<(), OutOfMemory>
     ensures view { OnOk result ((prefix : List ℕ) (forest : Forest) (levels : Levels) → completed prefix forest walk.new levels
@@ -274,7 +274,7 @@ fn close(walk: &mut Walk, frame: Frame) -> Result<Option<NodeId>, OutOfMemory>
 
 fn close_boundary(
     walk: &mut Walk,
-    kind: Kind,
+    kind: BoundaryStatus,
     digest: Text,
     before: Items<Item>,
 ) -> Result<(), OutOfMemory>

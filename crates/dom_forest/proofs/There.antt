@@ -4,7 +4,7 @@ use Rattle.std.proofs.lemmas.Bool.{cases_eq}
 use Rattle.dom_forest.specs.declared.node.NewNode.{NewNode}
 use Rattle.dom_forest.specs.declared.node.NodeId.{NodeId}
 use Rattle.dom_forest.specs.Forest.{Forest, empty, tree, times, from, first_content, content_of, IsThere, IsElement, IsComment, MayHaveChildren}
-use Rattle.dom_forest.specs.Edits.{Numbered, changed}
+use Rattle.dom_forest.specs.Edits.{DomState, changed}
 use Rattle.dom_forest.specs.Flat.{flat, forest_of, IsThereOrTop}
 use Rattle.dom_forest.proofs.Flattening.{forest_of-flat}
 use Rattle.dom_forest.proofs.Focus.{focus, absent}
@@ -30,7 +30,7 @@ there_from_found id forest content kids later found =
     there_unless id forest (λ none. let gone : from id forest ≡ empty = (absent id forest none).from_is in cc)
 
 -- A node that is not there can't be changed.
-pub unchanged : (id : ℕ) (dom : Numbered) (change : NewNode → Forest → Forest → Forest) → times id dom.forest ≡ 0 → dom ≡ record dom { forest = changed id change dom.forest }
+pub unchanged : (id : ℕ) (dom : DomState) (change : NewNode → Forest → Forest → Forest) → times id dom.forest ≡ 0 → dom ≡ record dom { forest = changed id change dom.forest }
 unchanged id dom change none = ap (λ f. record dom { forest = f }) (sym ((absent id dom.forest none).same change))
 
 -- Two changes that agree at the node are one.

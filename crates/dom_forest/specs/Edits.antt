@@ -9,16 +9,16 @@ use Rattle.dom_forest.specs.Forest.{Forest, empty, tree, times, count, joined, f
 
 -- A document that is edited: its nodes, and the id that the next new node gets. Ids are given in ascending order, so
 -- that of a removed node never comes back.
-pub record Numbered : Type 0 where
+pub record DomState : Type 0 where
   pub forest : Forest
   pub next : ℕ
 
 -- Each id stands once, and is below the next one. This is so in every document.
-pub record IsNumbered (dom : Numbered) : Type 0 where
+pub record IsNumbered (dom : DomState) : Type 0 where
   pub once : (id : ℕ) → times id dom.forest ≤ 1
   pub given : (id : ℕ) → dom.next ≤ id → times id dom.forest ≡ 0
 
-abbrev pub nothing : Numbered
+abbrev pub nothing : DomState
 nothing = record { forest = empty; next = 0 }
 
 -- The forest in which the siblings from the node on are others, made of the node's content, its children and its later
@@ -35,19 +35,19 @@ with_last (Some parent) more forest =
     changed parent.0 (λ content kids later. tree parent.0 content (joined kids more) later) forest
 
 -- The document with a new node as the last child, or as the last node at the top for None.
-abbrev pub appended : Option NodeId → NewNode → Numbered → Numbered
+abbrev pub appended : Option NodeId → NewNode → DomState → DomState
 appended parent node dom = record {
   forest = with_last parent (tree dom.next node empty empty) dom.forest;
   next = dom.next + 1;
 }
 
 -- The document with another content of a node.
-abbrev pub with_content : ℕ → NewNode → Numbered → Numbered
+abbrev pub with_content : ℕ → NewNode → DomState → DomState
 with_content id node dom =
     record dom { forest = changed id (λ content kids later. tree id node kids later) dom.forest }
 
 -- The document without a node and all below it.
-abbrev pub without : ℕ → Numbered → Numbered
+abbrev pub without : ℕ → DomState → DomState
 without id dom = record dom { forest = changed id (λ content kids later. later) dom.forest }
 
 -- The forest with ids that ascend in document order from a first one.
@@ -57,23 +57,23 @@ renumbered next (tree i content kids later) =
     tree next content (renumbered (next + 1) kids) (renumbered (next + 1 + count kids) later)
 
 -- A forest as a document of its own.
-abbrev pub numbered : Forest → Numbered
+abbrev pub numbered : Forest → DomState
 numbered forest = record { forest = renumbered 0 forest; next = count forest }
 
 -- A node with all below it, as a document of its own.
-abbrev pub part_of : ℕ → Numbered → Numbered
+abbrev pub part_of : ℕ → DomState → DomState
 part_of id dom = numbered (first_tree (from id dom.forest))
 
 -- The document with another one before a node, as its earlier siblings. The nodes of the other get new ids in document
 -- order.
-abbrev pub with_before : ℕ → Numbered → Numbered → Numbered
+abbrev pub with_before : ℕ → DomState → DomState → DomState
 with_before id part dom = record {
   forest = changed id (λ content kids later. joined (renumbered dom.next part.forest) (tree id content kids later)) dom.forest;
   next = dom.next + count part.forest;
 }
 
 -- The children of the first node at the top.
-abbrev pub inner_of : Numbered → Numbered
+abbrev pub inner_of : DomState → DomState
 inner_of dom = record dom { forest = first_kids dom.forest }
 
 -- The attribute that holds the digest of a boundary's error.
@@ -95,6 +95,6 @@ digest_set digest (Text text) = Text text
 digest_set digest (Comment mark) = Comment mark
 
 -- The document with the digest at a node.
-abbrev pub with_digest_at : ℕ → List ℕ → Numbered → Numbered
+abbrev pub with_digest_at : ℕ → List ℕ → DomState → DomState
 with_digest_at id digest dom =
     record dom { forest = changed id (λ content kids later. tree id (digest_set digest content) kids later) dom.forest }

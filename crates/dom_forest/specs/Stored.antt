@@ -4,7 +4,7 @@ use Rattle.std.specs.Coded.{Coded, code_by, coded×, coded_list, coded_option, c
 use Rattle.std.proofs.Common.{ap, ◌∙◌}
 use Rattle.dom_forest.specs.declared.node.NewNode.{NewNode}
 use Rattle.dom_forest.specs.contracts.node.NewNode.{the_row}
-use Rattle.dom_forest.specs.Edits.{Numbered}
+use Rattle.dom_forest.specs.Edits.{DomState}
 use Rattle.dom_forest.specs.Forest.{Forest, empty, tree}
 
 abbrev pub stored : Forest → List (Option (ℕ × NewNode)) → List (Option (ℕ × NewNode))
@@ -35,6 +35,6 @@ forest_code =
     code_by (List (Option (ℕ × NewNode))) (coded_list (coded_option (coded× coded_ℕ the_row.coded)))
     (λ forest. stored forest []) (λ list. first_forest (rebuilt list)) (λ forest. ap first_forest (rebuilt-stored forest []))
 
-abbrev pub numbered_code : Coded Numbered
+abbrev pub numbered_code : Coded DomState
 numbered_code =
     code_by (Forest × ℕ) (coded× forest_code coded_ℕ) (λ dom. (dom.forest, dom.next)) (λ p. record { forest = p.0; next = p.1 }) (λ _. refl)

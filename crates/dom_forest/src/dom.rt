@@ -3,7 +3,7 @@
 ghost use Rattle.std.specs.Prelude.{◌≡◌, ◌↔◌, IfErr, IfOk, IfSome, IsNone, IsTrue, OnErr, OnOk, Option, Some, ℕ};
 ghost use Rattle.dom_forest.specs.declared.node.NodeId.{NodeId};
 ghost use Rattle.dom_forest.specs.Boundary.{end_of_boundary};
-ghost use Rattle.dom_forest.specs.Edits.{IsNumbered, Numbered, appended, inner_of, nothing, part_of, with_before, with_content, with_digest_at, without};
+ghost use Rattle.dom_forest.specs.Edits.{IsNumbered, DomState, appended, inner_of, nothing, part_of, with_before, with_content, with_digest_at, without};
 ghost use Rattle.dom_forest.specs.Refusals.{IsRefusal};
 ghost use Rattle.dom_forest.specs.declared.node.NewNode.TheVariants.{Comment};
 ghost use Rattle.dom_forest.specs.Forest.{IsComment, IsElement, IsOneElement, IsThere, MayHaveChildren, times, content_of, first_of, from, kids_of, later_of, next_of, parent_of, previous_of};
@@ -41,10 +41,10 @@ pub struct Dom {
 
 impl Model for Dom {
     ghost use Rattle.std.specs.Prelude.{length};
-    ghost use Rattle.dom_forest.specs.Edits.{Numbered};
+    ghost use Rattle.dom_forest.specs.Edits.{DomState};
     ghost use Rattle.dom_forest.specs.Stored.{numbered_code};
 
-    ghost Value = { Numbered };
+    ghost Value = { DomState };
 
     ghost coded = { numbered_code };
 
@@ -259,8 +259,8 @@ fn seen(node: &NewNode) -> DomNode<'_>
 /// A walk over a document by `first` and `next` meets its forest: from a node's first child on stand its children, and
 /// from its next sibling on its later siblings.
 pub fn laws_of_walks()
-    ensures kids { (dom : Numbered) → IsNumbered dom → (parent : Option NodeId) (child : ℕ) → first_of parent dom.forest ≡ Some child
+    ensures kids { (dom : DomState) → IsNumbered dom → (parent : Option NodeId) (child : ℕ) → first_of parent dom.forest ≡ Some child
         → from child dom.forest ≡ kids_of parent dom.forest }
-    ensures later { (dom : Numbered) → IsNumbered dom → (node next : ℕ) → next_of node dom.forest ≡ Some next
+    ensures later { (dom : DomState) → IsNumbered dom → (node next : ℕ) → next_of node dom.forest ≡ Some next
         → from next dom.forest ≡ later_of node dom.forest }
 {}

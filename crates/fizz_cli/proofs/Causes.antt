@@ -9,9 +9,9 @@ use Rattle.fizz_cli.specs.Documents.{IsDocument}
 use Rattle.fizz_cli.specs.Source.{IsPageFile}
 use Rattle.fizz_cli.specs.Refusals.{IsAccepted, IsAppFile, IsEmptyScript, IsFile, IsLongFile, IsOutput, IsRefusedApp, IsRefusedFile, IsRefusedScript, IsScriptFile, IsUnreadFile, Means, Refuses, RefusesPair, ShowsFile}
 use Rattle.fizz_cli.specs.Showing.{IsRefusedPage, ShowsDocument}
-use Rattle.fizz_cli.specs.Endings.{Began, Sends}
+use Rattle.fizz_cli.specs.Endings.{AppendsPrefix, SendsAll}
 use Rattle.fizz_cli.specs.Statuses.{IsUnread, IsCause, IsCalledFor, status_of}
-use Rattle.fizz_cli.specs.Stops.{Excused, Gives, IsMissed}
+use Rattle.fizz_cli.specs.Stops.{IsFaultOrRefused, AcceptsOrRefuses, IsMissed}
 use Rattle.fizz_cli.specs.declared.command.Command.{Command}
 use Rattle.fizz_cli.specs.declared.command.Command.TheVariants.{Render, Show}
 use Rattle.fizz_cli.specs.declared.refusal.Input.{Input}
@@ -24,15 +24,15 @@ use Rattle.fizz_cli.specs.declared.inputs.Stop.TheVariants.{Refused, OutOfMemory
 -- what the bytes of a file that was read give
 pub given : {A : Type 0} (input : Input) (are_refused : List ℕ → Refusal → Type 0) (file : Option (List ℕ)) (bytes : List ℕ) (rose : Type 0)
     (accepts accepted : A → Type 0) (result : Result A Stop) → IsFile input file bytes → ((v : A) → accepts v → accepted v) →
-    Gives accepts (are_refused bytes) result → Gives accepted (Excused rose (IsRefusedFile input are_refused file)) result
+    AcceptsOrRefuses accepts (are_refused bytes) result → AcceptsOrRefuses accepted (IsFaultOrRefused rose (IsRefusedFile input are_refused file)) result
 given input are_refused file bytes rose accepts accepted (Ok v) f to g = to v g
 given input are_refused file bytes rose accepts accepted (Err (Refused refusal)) f to g = inr (inr (bytes, f, g))
 given input are_refused file bytes rose accepts accepted (Err OutOfMemory) f to g = tt
 
 -- the document of a component file that was read
 pub app_given : (file : Option (List ℕ)) (bytes : List ℕ) (rose : Type 0) (result : Result (Vec ℕ Global) Stop) → IsFile App file bytes →
-    Gives (λ html. IsUtf8 bytes × ((nodes : List DocNode) × IsPageFile bytes nodes × ((prefix : List ℕ) → IsDocument prefix html.items nodes))) (IsRefusedApp bytes) result →
-    Gives (λ html. (nodes : List DocNode) × IsAppFile file nodes × ((prefix : List ℕ) → IsDocument prefix html.items nodes)) (Excused rose (IsRefusedFile App IsRefusedApp file)) result
+    AcceptsOrRefuses (λ html. IsUtf8 bytes × ((nodes : List DocNode) × IsPageFile bytes nodes × ((prefix : List ℕ) → IsDocument prefix html.items nodes))) (IsRefusedApp bytes) result →
+    AcceptsOrRefuses (λ html. (nodes : List DocNode) × IsAppFile file nodes × ((prefix : List ℕ) → IsDocument prefix html.items nodes)) (IsFaultOrRefused rose (IsRefusedFile App IsRefusedApp file)) result
 app_given file bytes rose result f g =
     given App IsRefusedApp file bytes rose
     (λ (html : Vec ℕ Global). IsUtf8 bytes × ((nodes : List DocNode) × IsPageFile bytes nodes × ((prefix : List ℕ) → IsDocument prefix html.items nodes)))
@@ -174,21 +174,21 @@ keeps_all (Some bytes) = refl
 
 -- whatever sending ends with, a front was appended
 pub sends_front : (status : ℕ) (bytes : List ℕ) (old new : Option (List ℕ)) (rose : Type 0) (result : ℕ) →
-    Sends status bytes old new rose result → Began old new bytes
+    SendsAll status bytes old new rose result → AppendsPrefix old new bytes
 sends_front status bytes old new rose result (inl s) = (length bytes, subst (λ (b : List ℕ). Appends old new b) (sym (take_all (length bytes) bytes (omega arith))) s.1)
 sends_front status bytes old new rose result (inr (inl s)) = s.2
 sends_front status bytes old new rose result (inr (inr s)) = s.1
 
 -- where nothing failed, sending ends with its status
 pub sends_status : (status : ℕ) (bytes : List ℕ) (old new : Option (List ℕ)) (rose : Type 0) (result : ℕ) →
-    Sends status bytes old new rose result → (rose → ⊥) → result ≢ 8 → result ≡ status
+    SendsAll status bytes old new rose result → (rose → ⊥) → result ≢ 8 → result ≡ status
 sends_status status bytes old new rose result (inl s) quiet memory = s.0
 sends_status status bytes old new rose result (inr (inl s)) quiet memory = absurd (quiet s.1)
 sends_status status bytes old new rose result (inr (inr s)) quiet memory = absurd (memory s.0)
 
 -- where sending ends with 3 or 4, all was sent
 pub sends_told : (status : ℕ) (bytes : List ℕ) (old new : Option (List ℕ)) (rose : Type 0) (result : ℕ) →
-    Sends status bytes old new rose result → (result ≡ 3) ⊎ (result ≡ 4) → (status ≡ result) × Appends old new bytes
+    SendsAll status bytes old new rose result → (result ≡ 3) ⊎ (result ≡ 4) → (status ≡ result) × Appends old new bytes
 sends_told status bytes old new rose result (inl s) is = (sym s.0, s.1)
 sends_told status bytes old new rose result (inr (inl s)) (inl three) = absurd (omega (arith, s.0, three))
 sends_told status bytes old new rose result (inr (inl s)) (inr four) = absurd (omega (arith, s.0, four))
@@ -219,13 +219,13 @@ missed_rose rose (NoSuchId at id) m = absurd m
 missed_rose rose (NotBoundary at) m = absurd m
 missed_rose rose (StillPending count) m = absurd m
 
-excused_refuses : (at : Contents) (command : Command) (rose : Type 0) (refusal : Refusal) → Excused rose (Refuses at command) refusal → (rose → ⊥) → Refuses at command refusal
+excused_refuses : (at : Contents) (command : Command) (rose : Type 0) (refusal : Refusal) → IsFaultOrRefused rose (Refuses at command) refusal → (rose → ⊥) → Refuses at command refusal
 excused_refuses at command rose refusal (inl m) quiet = absurd (quiet (missed_rose rose refusal m))
 excused_refuses at command rose refusal (inr r) quiet = r
 
 -- a refusal is called for
 pub calls_for_refusal : (at : Contents) (command : Command) (rose : Type 0) (refusal : Refusal) (status : ℕ) → ((refusal : Refusal) → IsAccepted at command → Refuses at command refusal → ⊥) →
-    Excused rose (Refuses at command) refusal → (rose → ⊥) → status ≡ status_of refusal → IsCalledFor at command status
+    IsFaultOrRefused rose (Refuses at command) refusal → (rose → ⊥) → status ≡ status_of refusal → IsCalledFor at command status
 calls_for_refusal at command rose refusal status apart excused quiet is =
     let r = excused_refuses at command rose refusal excused quiet in
     record {
@@ -239,7 +239,7 @@ not_missed rose refuses (inl none) = absurd none
 not_missed rose refuses (inr r) = r
 
 unread_cause : (told : Option Contents) (command : Command) (rose : Type 0) (input : Input) →
-    ((at : Contents) → told ≡ Some at → Excused rose (Refuses at command) (CannotRead input)) → (told ≡ None → rose) → IsUnread told command rose input
+    ((at : Contents) → told ≡ Some at → IsFaultOrRefused rose (Refuses at command) (CannotRead input)) → (told ≡ None → rose) → IsUnread told command rose input
 unread_cause None command rose input excused untold = inl (untold refl)
 unread_cause (Some at) command rose input excused untold = by_cause (excused at refl)
   where
@@ -249,7 +249,7 @@ unread_cause (Some at) command rose input excused untold = by_cause (excused at 
 
 -- the cause of a refusal that a step gave
 pub cause_of : (told : Option Contents) (command : Command) (rose : Type 0) (refusal : Refusal) →
-    ((at : Contents) → told ≡ Some at → Excused rose (Refuses at command) refusal) →
+    ((at : Contents) → told ≡ Some at → IsFaultOrRefused rose (Refuses at command) refusal) →
     (told ≡ None → (input : Input) → refusal ≡ CannotRead input → rose) → IsCause told command rose refusal
 cause_of told command rose (CannotRead input) excused untold = unread_cause told command rose input excused (λ none. untold none input refl)
 cause_of told command rose (TooLong input) excused untold = λ at is. not_missed rose _ (excused at is)

@@ -9,7 +9,7 @@ use Rattle.document_machine.specs.Documents.{LeavesNoRest, Runs, RunsWhole}
 use Rattle.document_machine.specs.Documents as machine
 use Rattle.document_machine.specs.Plain as plain
 use Rattle.document_machine.specs.Printing.{MayPrint, page_bytes, with_forest}
-use Rattle.document_machine.specs.Running.{Building, at_first}
+use Rattle.document_machine.specs.Running.{PageState, at_first}
 use Rattle.document_machine.specs.Settled.{settled_of}
 use Rattle.document_machine.specs.Views.{view_of}
 use Rattle.fizz_cli.specs.Documents.{IsDocument}
@@ -20,7 +20,7 @@ use Rattle.fizz_cli.proofs.PageForests.{NameLaw, flat_bytes, forest_is_plain, fo
 -- the laws of the layers below that pages need
 pub record PageLaws : Type 0 where
   pub names : NameLaw
-  pub prints : (prefix : List ℕ) (start : Building) (forest : Forest) → IsNumbered start.dom → MayPrint forest false (machine.most_open - length start.opened) → (run : Runs prefix start (page_bytes forest) (with_forest forest start)) × LeavesNoRest run
+  pub prints : (prefix : List ℕ) (start : PageState) (forest : Forest) → IsNumbered start.dom → MayPrint forest false (machine.most_open - length start.opened) → (run : Runs prefix start (page_bytes forest) (with_forest forest start)) × LeavesNoRest run
   pub ids : (prefix : List ℕ) (first : ℕ) (forest : Forest) → view_of prefix (renumbered first forest) ≡ view_of prefix forest
   pub settled : (prefix : List ℕ) (forest : Forest) → plain.IsPlain prefix true forest → settled_of (view_of prefix forest) ≡ Some (plain.plain_nodes forest)
 
@@ -48,8 +48,8 @@ source_document laws body s is utf8 prefix =
     not_after : false ≡ true → ⊥
     not_after h = cc
 
-pub same_document : ((prefix : List ℕ) (start a b : Building) (bytes : List ℕ) → IsUtf8 prefix → Runs prefix start bytes a → Runs prefix start bytes b → a ≡ b) →
+pub same_document : ((prefix : List ℕ) (start a b : PageState) (bytes : List ℕ) → IsUtf8 prefix → Runs prefix start bytes a → Runs prefix start bytes b → a ≡ b) →
     (prefix bytes : List ℕ) (a b : List DocNode) → IsUtf8 prefix → IsDocument prefix bytes a → IsDocument prefix bytes b → a ≡ b
 same_document one prefix bytes a b utf8 p q =
     let built : p.built ≡ q.built = one prefix at_first p.built q.built bytes utf8 p.whole.run q.whole.run in
-    same_Some a b (sym p.settled ∙ ap (λ (d : Building). settled_of (view_of prefix d.dom.forest)) built ∙ q.settled)
+    same_Some a b (sym p.settled ∙ ap (λ (d : PageState). settled_of (view_of prefix d.dom.forest)) built ∙ q.settled)

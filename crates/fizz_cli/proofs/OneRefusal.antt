@@ -3,7 +3,7 @@ use Rattle.std.proofs.Common.{◌≡◌, ℕ, ◌<◌, ◌≤◌, ◌⊎◌, Lis
 use Rattle.std.specs.Str.{IsUtf8, IsValidUpTo}
 use Rattle.std.proofs.lemmas.Bool.{cases_lt}
 use Rattle.fizz_outside.specs.FileContents.{Contents}
-use Rattle.document_machine.specs.Running.{Building, at_first}
+use Rattle.document_machine.specs.Running.{PageState, at_first}
 use Rattle.document_machine.specs.Documents.{Runs}
 use Rattle.document_machine.specs.Faults.{EndsEarly, HasMachineFault}
 use Rattle.document_machine.specs.Settled.{counted, is_pending}
@@ -140,7 +140,7 @@ ends_run prefix bytes at e = record { toks = e.toks; rest = e.rest; last = e.las
 
 same_count : (prefix : List ℕ) → MachineLaws prefix → (bytes : List ℕ) (m n : ℕ) → StaysPending prefix bytes m → StaysPending prefix bytes n → m ≡ n
 same_count prefix laws bytes m n p q =
-    p.counts ∙ ap (λ (b : Building). counted is_pending (view_of prefix b.dom.forest)) (laws.one p.built q.built bytes p.whole.run q.whole.run) ∙ sym q.counts
+    p.counts ∙ ap (λ (b : PageState). counted is_pending (view_of prefix b.dom.forest)) (laws.one p.built q.built bytes p.whole.run q.whole.run) ∙ sym q.counts
 
 same_refusal : (x y : Option Refusal) (a b : Refusal) → x ≡ y → x ≡ Some a → y ≡ Some b → a ≡ b
 same_refusal x y a b e p q = cc

@@ -7,10 +7,10 @@ use Rattle.html_read.specs.Faults.{HasFault, HasKind, IsAlive, Splits}
 use Rattle.html_read.specs.Tokens.{spelling, spellings}
 use Rattle.dom_forest.specs.Printing.{printed_nodes}
 use Rattle.dom_forest.specs.declared.document.DocNode.{DocNode}
-use Rattle.document_machine.specs.Running.{Building, at_first}
+use Rattle.document_machine.specs.Running.{PageState, at_first}
 use Rattle.document_machine.specs.Documents.{Runs, RunsWhole}
 use Rattle.document_machine.specs.Faults.{EndsEarly, HasMachineFault}
-use Rattle.document_machine.specs.Holding.{FeedRefusal, FinishRefusal, HasRun, Holding, SeesWhole, Stops, fed, nothing_run}
+use Rattle.document_machine.specs.MachineState.{FeedRefusal, FinishRefusal, HasRun, MachineState, SeesWhole, Stops, fed, nothing_run}
 use Rattle.document_machine.specs.Settled.{is_pending, nodes_of, number_of, settled_of}
 use Rattle.document_machine.specs.Shown.{seen}
 use Rattle.document_machine.specs.Views.{View, view_of}
@@ -19,7 +19,7 @@ use Rattle.document_machine.specs.declared.fault.MachineFault.TheVariants as fau
 use Rattle.document_machine.specs.declared.view.View.{View as Seen}
 use Rattle.fizz_cli.specs.Documents.{IsDocument}
 use Rattle.fizz_cli.specs.Showing.{IsRefusedPage, ShowsDocument, StaysPending}
-use Rattle.fizz_cli.specs.Stops.{Gives, IsFedCause, IsPendingView, stop_of}
+use Rattle.fizz_cli.specs.Stops.{AcceptsOrRefuses, IsFedCause, IsPendingView, stop_of}
 use Rattle.fizz_cli.specs.declared.inputs.Stop.{Stop}
 use Rattle.fizz_cli.specs.declared.refusal.Refusal.{Refusal}
 use Rattle.fizz_cli.specs.declared.refusal.Refusal.TheVariants.{CannotRead, TooLong, NotUtf8, Unbuilt, Html, UnknownFunction, NoSuchId, NotBoundary, StillPending}
@@ -41,7 +41,7 @@ fault_before bytes more at toks kind f =
       kind_is = subst (λ (b : ℕ). HasKind f.rest b kind) (sym (get_or_append_left bytes more 0 at f.first.within)) f.kind_is;
     }
 
-pub fault_goes_on : (prefix : List ℕ) (start : Building) (bytes more : List ℕ) (met : MachineFault) → HasMachineFault prefix start bytes met → HasMachineFault prefix start (bytes ++ more) met
+pub fault_goes_on : (prefix : List ℕ) (start : PageState) (bytes more : List ℕ) (met : MachineFault) → HasMachineFault prefix start bytes met → HasMachineFault prefix start (bytes ++ more) met
 fault_goes_on prefix start bytes more met (inl t) = inl (record {
   before = t.before;
   stop = t.stop;
@@ -66,7 +66,7 @@ fault_goes_on prefix start bytes more met (inr b) = inr (record {
 })
 
 -- What is known in the loop over pieces: what was fed is the front, and the machine has run it.
-pub record Feeding (old : Holding) (bytes : List ℕ) (machine : Holding) (rest : List ℕ) : Type 0 where
+pub record Feeding (old : MachineState) (bytes : List ℕ) (machine : MachineState) (rest : List ℕ) : Type 0 where
   pub front : List ℕ
   pub split : bytes ≡ front ++ rest
   pub kept : machine.prefix ≡ old.prefix
@@ -76,10 +76,10 @@ pub record Feeding (old : Holding) (bytes : List ℕ) (machine : Holding) (rest 
 pub parted : (rest piece more : List ℕ) (n : ℕ) → piece ≡ take n rest → more ≡ drop n rest → rest ≡ piece ++ more
 parted rest piece more n front back = rw (front, back) (sym (take-append-drop n rest))
 
-pub feeding_begins : (old : Holding) (bytes : List ℕ) → Feeding old bytes old bytes
+pub feeding_begins : (old : MachineState) (bytes : List ℕ) → Feeding old bytes old bytes
 feeding_begins old bytes = record { front = []; split = refl; kept = refl; ran = λ r. r; room = refl }
 
-pub feeds_on : (old : Holding) (bytes : List ℕ) (machine new : Holding) (rest piece more : List ℕ) → Feeding old bytes machine rest → rest ≡ piece ++ more →
+pub feeds_on : (old : MachineState) (bytes : List ℕ) (machine new : MachineState) (rest piece more : List ℕ) → Feeding old bytes machine rest → rest ≡ piece ++ more →
     ((front : List ℕ) → HasRun front machine → HasRun (front ++ piece) new) → fed new ≡ fed machine + length piece → new.prefix ≡ machine.prefix →
     Feeding old bytes new more
 feeds_on old bytes machine new rest piece more f parts ran counted kept =
@@ -92,11 +92,11 @@ feeds_on old bytes machine new rest piece more f parts ran counted kept =
       room = omega (arith, f.room, counted, sizes);
     }
 
-pub feeding_ends : (old : Holding) (bytes : List ℕ) (machine : Holding) (rest : List ℕ) → Feeding old bytes machine rest → rest ≡ [] → HasRun [] old → HasRun bytes machine
+pub feeding_ends : (old : MachineState) (bytes : List ℕ) (machine : MachineState) (rest : List ℕ) → Feeding old bytes machine rest → rest ≡ [] → HasRun [] old → HasRun bytes machine
 feeding_ends old bytes machine rest f none r =
     subst (λ (bs : List ℕ). HasRun bs machine) (sym (f.split ∙ ap (λ bs. f.front ++ bs) none ∙ append-nil f.front)) (f.ran r)
 
-stops_cause : (old : Holding) (bytes : List ℕ) (machine new : Holding) (rest piece more : List ℕ) (met : MachineFault) → Feeding old bytes machine rest → rest ≡ piece ++ more →
+stops_cause : (old : MachineState) (bytes : List ℕ) (machine new : MachineState) (rest piece more : List ℕ) (met : MachineFault) → Feeding old bytes machine rest → rest ≡ piece ++ more →
     Stops machine piece new met → HasRun [] old → HasMachineFault old.prefix at_first bytes met
 stops_cause old bytes machine new rest piece more met f parts s r =
     subst (λ (p : List ℕ). HasMachineFault p at_first bytes met) f.kept
@@ -105,7 +105,7 @@ stops_cause old bytes machine new rest piece more met f parts s r =
     (fault_goes_on machine.prefix at_first (f.front ++ piece) more met (s.cause f.front (f.ran r))))
 
 -- what a piece is refused for, the bytes are refused for
-pub feeding_stops : (old : Holding) (bytes : List ℕ) (machine new : Holding) (rest piece more : List ℕ) (met : MachineFault) → Feeding old bytes machine rest → rest ≡ piece ++ more →
+pub feeding_stops : (old : MachineState) (bytes : List ℕ) (machine new : MachineState) (rest piece more : List ℕ) (met : MachineFault) → Feeding old bytes machine rest → rest ≡ piece ++ more →
     FeedRefusal machine piece new met → HasRun [] old → IsFedCause old.prefix bytes met
 feeding_stops old bytes machine new rest piece more (fault.Html at) f parts s r = stops_cause old bytes machine new rest piece more (fault.Html at) f parts s r
 feeding_stops old bytes machine new rest piece more (fault.UnknownFunction at) f parts s r = stops_cause old bytes machine new rest piece more (fault.UnknownFunction at) f parts s r
@@ -116,30 +116,30 @@ feeding_stops old bytes machine new rest piece more fault.OutOfMemory f parts s 
 -- what stops the machine, the page is refused for
 
 pub fed_stops : {A : Type 0} (accepts : A → Type 0) (prefix bytes : List ℕ) (met : MachineFault) (stop : Stop) → stop ≡ stop_of met → IsFedCause prefix bytes met →
-    Gives accepts (IsRefusedPage prefix bytes) (Err stop)
-fed_stops accepts prefix bytes met stop is cause = subst (λ (s : Stop). Gives accepts (IsRefusedPage prefix bytes) (Err s)) (sym is) (by_cases met cause)
+    AcceptsOrRefuses accepts (IsRefusedPage prefix bytes) (Err stop)
+fed_stops accepts prefix bytes met stop is cause = subst (λ (s : Stop). AcceptsOrRefuses accepts (IsRefusedPage prefix bytes) (Err s)) (sym is) (by_cases met cause)
   where
-    by_cases : (met : MachineFault) → IsFedCause prefix bytes met → Gives accepts (IsRefusedPage prefix bytes) (Err (stop_of met))
+    by_cases : (met : MachineFault) → IsFedCause prefix bytes met → AcceptsOrRefuses accepts (IsRefusedPage prefix bytes) (Err (stop_of met))
     by_cases (fault.Html at) cause = inl cause
     by_cases (fault.UnknownFunction at) cause = cause
     by_cases (fault.NoSuchId at id) cause = cause
     by_cases (fault.NotBoundary at) cause = cause
     by_cases fault.OutOfMemory cause = tt
 
-pub finish_stops : {A : Type 0} (accepts : A → Type 0) (machine : Holding) (prefix bytes : List ℕ) (met : MachineFault) (stop : Stop) → stop ≡ stop_of met → machine.prefix ≡ prefix →
-    FinishRefusal machine bytes met → Gives accepts (IsRefusedPage prefix bytes) (Err stop)
+pub finish_stops : {A : Type 0} (accepts : A → Type 0) (machine : MachineState) (prefix bytes : List ℕ) (met : MachineFault) (stop : Stop) → stop ≡ stop_of met → machine.prefix ≡ prefix →
+    FinishRefusal machine bytes met → AcceptsOrRefuses accepts (IsRefusedPage prefix bytes) (Err stop)
 finish_stops accepts machine prefix bytes met stop is kept cause =
-    subst (λ (s : Stop). Gives accepts (IsRefusedPage prefix bytes) (Err s)) (sym is)
-    (subst (λ (p : List ℕ). Gives accepts (IsRefusedPage p bytes) (Err (stop_of met))) kept (by_cases met cause))
+    subst (λ (s : Stop). AcceptsOrRefuses accepts (IsRefusedPage prefix bytes) (Err s)) (sym is)
+    (subst (λ (p : List ℕ). AcceptsOrRefuses accepts (IsRefusedPage p bytes) (Err (stop_of met))) kept (by_cases met cause))
   where
-    by_cases : (met : MachineFault) → FinishRefusal machine bytes met → Gives accepts (IsRefusedPage machine.prefix bytes) (Err (stop_of met))
+    by_cases : (met : MachineFault) → FinishRefusal machine bytes met → AcceptsOrRefuses accepts (IsRefusedPage machine.prefix bytes) (Err (stop_of met))
     by_cases (fault.Html at) cause = inr cause
     by_cases (fault.UnknownFunction at) cause = absurd cause
     by_cases (fault.NoSuchId at id) cause = absurd cause
     by_cases (fault.NotBoundary at) cause = absurd cause
     by_cases fault.OutOfMemory cause = tt
 
-pub seen_whole : (machine : Holding) (prefix bytes : List ℕ) (view : Seen) → machine.prefix ≡ prefix → SeesWhole machine bytes view → SeesWhole (nothing_run prefix) bytes view
+pub seen_whole : (machine : MachineState) (prefix bytes : List ℕ) (view : Seen) → machine.prefix ≡ prefix → SeesWhole machine bytes view → SeesWhole (nothing_run prefix) bytes view
 seen_whole machine prefix bytes view kept s = record {
   built = s.built;
   run = subst (λ (p : List ℕ). RunsWhole p at_first bytes s.built) kept s.run;
@@ -169,9 +169,9 @@ pending_page prefix bytes view (StillPending count) s p =
 -- a page that has a settled document is not refused
 
 pub record MachineLaws (prefix : List ℕ) : Type 0 where
-  pub one : (a b : Building) (bytes : List ℕ) → Runs prefix at_first bytes a → Runs prefix at_first bytes b → a ≡ b
-  pub sound : (end : Building) (bytes : List ℕ) → Runs prefix at_first bytes end → (met : MachineFault) → HasMachineFault prefix at_first bytes met → ⊥
-  pub whole : (end : Building) (bytes : List ℕ) (at : ℕ) → RunsWhole prefix at_first bytes end → EndsEarly prefix at_first bytes at → ⊥
+  pub one : (a b : PageState) (bytes : List ℕ) → Runs prefix at_first bytes a → Runs prefix at_first bytes b → a ≡ b
+  pub sound : (end : PageState) (bytes : List ℕ) → Runs prefix at_first bytes end → (met : MachineFault) → HasMachineFault prefix at_first bytes met → ⊥
+  pub whole : (end : PageState) (bytes : List ℕ) (at : ℕ) → RunsWhole prefix at_first bytes end → EndsEarly prefix at_first bytes at → ⊥
 
 no_value : {A : Type 0} (a : A) → None ≡ Some a → ⊥
 no_value a h = cc
@@ -188,7 +188,7 @@ not_pending : (prefix : List ℕ) → MachineLaws prefix → (bytes : List ℕ) 
 not_pending prefix laws bytes nodes count d p =
     let same : p.built ≡ d.built = laws.one p.built d.built bytes p.whole.run d.whole.run in
     unsettled (number_of is_pending (view_of prefix d.built.dom.forest)) (nodes_of (view_of prefix d.built.dom.forest)) nodes
-    (subst (λ (b : Building). number_of is_pending (view_of prefix b.dom.forest) ≢ 0) same p.some) d.settled
+    (subst (λ (b : PageState). number_of is_pending (view_of prefix b.dom.forest) ≢ 0) same p.some) d.settled
 
 pub shown_sound : (prefix : List ℕ) → MachineLaws prefix → (bytes out : List ℕ) (refusal : Refusal) → ShowsDocument prefix bytes out → IsRefusedPage prefix bytes refusal → ⊥
 shown_sound prefix laws bytes out (CannotRead input) s r = r

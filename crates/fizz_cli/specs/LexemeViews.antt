@@ -62,7 +62,7 @@ abbrev pub stack_of : List (Bor (List ℕ)) → List (List ℕ)
 stack_of names = reverse (map (λ n. n.now) names)
 
 -- The lexeme may not stand, or it was written and did what it does to the open elements.
-abbrev pub Puts : List ℕ → List ℕ → List (List ℕ) → List (List ℕ) → Bool → l.Lexeme → Option Bool → Type 0
-Puts old new names now after_text x None = l.may_follow names after_text x ≡ false
-Puts old new names now after_text x (Some is_text) =
+abbrev pub WritesLexeme : List ℕ → List ℕ → List (List ℕ) → List (List ℕ) → Bool → l.Lexeme → Option Bool → Type 0
+WritesLexeme old new names now after_text x None = l.may_follow names after_text x ≡ false
+WritesLexeme old new names now after_text x (Some is_text) =
     (l.may_follow names after_text x ≡ true) × (new ≡ old ++ l.lexeme_html x) × (now ≡ l.opened names x) × (is_text ≡ l.is_words x)

@@ -2,7 +2,7 @@
 use Rattle.std.specs.Prelude.{◌≡◌, ◌≢◌, ℕ, ◌⊎◌, List}
 use Rattle.dom_forest.specs.Printing.{printed_nodes}
 use Rattle.dom_forest.specs.declared.document.DocNode.{DocNode}
-use Rattle.document_machine.specs.Running.{Building, at_first}
+use Rattle.document_machine.specs.Running.{PageState, at_first}
 use Rattle.document_machine.specs.Documents.{RunsWhole}
 use Rattle.document_machine.specs.Faults.{HasMachineFault, EndsEarly}
 use Rattle.document_machine.specs.Settled.{counted, is_pending, number_of}
@@ -18,7 +18,7 @@ ShowsDocument prefix bytes out = (nodes : List DocNode) × IsDocument prefix byt
 
 -- The bytes are a whole page in which so many boundaries are pending.
 pub record StaysPending (prefix bytes : List ℕ) (count : ℕ) : Type 0 where
-  pub built : Building
+  pub built : PageState
   pub whole : RunsWhole prefix at_first bytes built
   pub some : number_of is_pending (view_of prefix built.dom.forest) ≢ 0
   pub counts : count ≡ counted is_pending (view_of prefix built.dom.forest)

@@ -5,7 +5,7 @@ use Rattle.fizz_outside.specs.FileContents.{Contents}
 use Rattle.fizz_cli.specs.Refusals.{IsAccepted, IsOutput, Refuses}
 use Rattle.fizz_cli.specs.Notes.{note_of, usage_note}
 use Rattle.fizz_cli.specs.Commands.{command_of}
-use Rattle.fizz_cli.specs.Endings.{Began}
+use Rattle.fizz_cli.specs.Endings.{AppendsPrefix}
 use Rattle.fizz_cli.specs.declared.command.Command.{Command}
 use Rattle.fizz_cli.specs.declared.refusal.Input.{Input}
 use Rattle.fizz_cli.specs.declared.refusal.Refusal.{Refusal}
@@ -38,9 +38,9 @@ IsCause told command rose refusal = IsRefused told command refusal
 abbrev pub IsCut : Option Contents → Command → Type 0 → Option (List ℕ) → Option (List ℕ) → Option (List ℕ) → Option (List ℕ) → Type 0
 IsCut told command rose out_old out_new notes_old notes_new =
     (Keeps out_old out_new × Keeps notes_old notes_new)
-    ⊎ (((bytes : List ℕ) × Began out_old out_new bytes × Keeps notes_old notes_new
+    ⊎ (((bytes : List ℕ) × AppendsPrefix out_old out_new bytes × Keeps notes_old notes_new
     × ((at : Contents) → told ≡ Some at → IsOutput at command bytes))
-    ⊎ ((refusal : Refusal) × Keeps out_old out_new × Began notes_old notes_new (note_of command refusal)
+    ⊎ ((refusal : Refusal) × Keeps out_old out_new × AppendsPrefix notes_old notes_new (note_of command refusal)
     × IsCause told command rose refusal))
 
 -- The note of a refusal was appended, nothing was written to the output, and the refusal has its cause.
@@ -58,6 +58,6 @@ pub record IsCalledFor (at : Contents) (command : Command) (status : ℕ) : Type
 abbrev pub IsCutCall : List (List ℕ) → Option Contents → Type 0 → Option (List ℕ) → Option (List ℕ) → Option (List ℕ) → Option (List ℕ) → Type 0
 IsCutCall words told rose out_old out_new notes_old notes_new =
     (Keeps out_old out_new × Keeps notes_old notes_new)
-    ⊎ (((command_of words ≡ None) × Keeps out_old out_new × Began notes_old notes_new usage_note)
+    ⊎ (((command_of words ≡ None) × Keeps out_old out_new × AppendsPrefix notes_old notes_new usage_note)
     ⊎ ((command : Command) × (command_of words ≡ Some command)
     × IsCut told command rose out_old out_new notes_old notes_new))

@@ -17,14 +17,14 @@ IsMissed rose (CannotRead input) = rose
 IsMissed _ _ = ⊥
 
 -- A fault was counted, or the files are refused.
-abbrev pub Excused : Type 0 → (Refusal → Type 0) → Refusal → Type 0
-Excused rose refuses refusal = IsMissed rose refusal ⊎ refuses refusal
+abbrev pub IsFaultOrRefused : Type 0 → (Refusal → Type 0) → Refusal → Type 0
+IsFaultOrRefused rose refuses refusal = IsMissed rose refusal ⊎ refuses refusal
 
 -- What a step gives: a value that is accepted, a refusal, or want of memory.
-abbrev pub Gives : {A : Type 0} → (A → Type 0) → (Refusal → Type 0) → Result A Stop → Type 0
-Gives accepts refuses (Ok v) = accepts v
-Gives accepts refuses (Err (Refused refusal)) = refuses refusal
-Gives accepts refuses (Err OutOfMemory) = Unit {0}
+abbrev pub AcceptsOrRefuses : {A : Type 0} → (A → Type 0) → (Refusal → Type 0) → Result A Stop → Type 0
+AcceptsOrRefuses accepts refuses (Ok v) = accepts v
+AcceptsOrRefuses accepts refuses (Err (Refused refusal)) = refuses refusal
+AcceptsOrRefuses accepts refuses (Err OutOfMemory) = Unit {0}
 
 -- why a machine's fault stops the command
 abbrev pub stop_of : MachineFault → Stop

@@ -3,13 +3,13 @@
 ghost use Rattle.std.specs.Prelude.{◌≡◌, ◌≤◌, ◌⊎◌, ℕ, List, Some, None, Ok, Err};
 ghost use Rattle.std.specs.Str.{IsUtf8};
 ghost use Rattle.fizz_outside.specs.FileContents.{Contents};
-ghost use Rattle.fizz_outside.specs.Faults.{Rose};
+ghost use Rattle.fizz_outside.specs.Faults.{FaultCounted};
 ghost use Rattle.dom_forest.specs.declared.document.DocNode.{DocNode as Node};
 ghost use Rattle.fizz_cli.specs.Documents.{IsDocument};
 ghost use Rattle.fizz_cli.specs.Source.{IsPageFile};
 ghost use Rattle.fizz_cli.specs.Refusals.{IsAccepted, IsAppFile, IsEmptyScript, IsFile, IsOutput, IsRefusedApp, IsRefusedFile, IsRefusedScript, IsScriptFile, IsUnreadFile, Means, Refuses, RefusesPair, most_bytes};
 ghost use Rattle.fizz_cli.specs.Showing.{IsRefusedPage, ShowsDocument};
-ghost use Rattle.fizz_cli.specs.Stops.{Excused, Gives};
+ghost use Rattle.fizz_cli.specs.Stops.{IsFaultOrRefused, AcceptsOrRefuses};
 ghost use Rattle.fizz_cli.specs.declared.refusal.Input.{Input};
 ghost use Rattle.fizz_cli.specs.declared.refusal.Refusal.{Refusal};
 ghost use Rattle.fizz_cli.specs.declared.inputs.Stop.TheVariants.{OutOfMemory as Memory};
@@ -58,10 +58,10 @@ pub(crate) fn output_of<F: Files>(
     ensures same { F.files files.new ≡ F.files files.old }
     ensures later { F.faults files.old ≤ F.faults files.new }
     ensures told { (at : Contents) → F.files files.old ≡ Some at →
-        Gives (λ out. IsOutput at command.now out.items)
-        (Excused (Rose (F.faults files.old) (F.faults files.new)) (Refuses at command.now)) result }
+        AcceptsOrRefuses (λ out. IsOutput at command.now out.items)
+        (IsFaultOrRefused (FaultCounted (F.faults files.old) (F.faults files.new)) (Refuses at command.now)) result }
     ensures untold { F.files files.old ≡ None → (input : Input) → result ≡ Err (Stop.Refused (Refusal.CannotRead input)) →
-        Rose (F.faults files.old) (F.faults files.new) }
+        FaultCounted (F.faults files.old) (F.faults files.new) }
     ensures apart { (at : Contents) (refusal : Refusal) → IsAccepted at command.now → Refuses at command.now refusal → ⊥ }
 {
     match command {
@@ -90,10 +90,10 @@ fn read_page<F: Files>(
     ensures same { F.files files.new ≡ F.files files.old }
     ensures later { F.faults files.old ≤ F.faults files.new }
     ensures told { (at : Contents) → F.files files.old ≡ Some at →
-        Gives (λ page. (nodes : List Node) × Means at app.now script.now nodes × ((prefix : List ℕ) → IsDocument prefix page.items nodes))
-        (Excused (Rose (F.faults files.old) (F.faults files.new)) (RefusesPair at app.now script.now)) result }
+        AcceptsOrRefuses (λ page. (nodes : List Node) × Means at app.now script.now nodes × ((prefix : List ℕ) → IsDocument prefix page.items nodes))
+        (IsFaultOrRefused (FaultCounted (F.faults files.old) (F.faults files.new)) (RefusesPair at app.now script.now)) result }
     ensures untold { F.files files.old ≡ None → (input : Input) → result ≡ Err (Stop.Refused (Refusal.CannotRead input)) →
-        Rose (F.faults files.old) (F.faults files.new) }
+        FaultCounted (F.faults files.old) (F.faults files.new) }
 {
     let page = read_app(alloc, files, app)?;
     read_script(files, script)?;
@@ -104,10 +104,10 @@ fn read_app<F: Files>(alloc: Global, files: &mut F, name: &Text) -> Result<Vec<u
     ensures same { F.files files.new ≡ F.files files.old }
     ensures later { F.faults files.old ≤ F.faults files.new }
     ensures told { (at : Contents) → F.files files.old ≡ Some at →
-        Gives (λ html. (nodes : List Node) × IsAppFile (at name.now) nodes × ((prefix : List ℕ) → IsDocument prefix html.items nodes))
-        (Excused (Rose (F.faults files.old) (F.faults files.new)) (IsRefusedFile Input.App IsRefusedApp (at name.now))) result }
+        AcceptsOrRefuses (λ html. (nodes : List Node) × IsAppFile (at name.now) nodes × ((prefix : List ℕ) → IsDocument prefix html.items nodes))
+        (IsFaultOrRefused (FaultCounted (F.faults files.old) (F.faults files.new)) (IsRefusedFile Input.App IsRefusedApp (at name.now))) result }
     ensures untold { F.files files.old ≡ None → (input : Input) → result ≡ Err (Stop.Refused (Refusal.CannotRead input)) →
-        Rose (F.faults files.old) (F.faults files.new) }
+        FaultCounted (F.faults files.old) (F.faults files.new) }
 {
     let bytes = read_bytes(files, name, Input::App)?;
     app_page(alloc, &bytes)
@@ -117,10 +117,10 @@ fn read_script<F: Files>(files: &mut F, name: &Text) -> Result<(), Stop>
     ensures same { F.files files.new ≡ F.files files.old }
     ensures later { F.faults files.old ≤ F.faults files.new }
     ensures told { (at : Contents) → F.files files.old ≡ Some at →
-        Gives (λ _. IsScriptFile (at name.now))
-        (Excused (Rose (F.faults files.old) (F.faults files.new)) (IsRefusedFile Input.Script IsRefusedScript (at name.now))) result }
+        AcceptsOrRefuses (λ _. IsScriptFile (at name.now))
+        (IsFaultOrRefused (FaultCounted (F.faults files.old) (F.faults files.new)) (IsRefusedFile Input.Script IsRefusedScript (at name.now))) result }
     ensures untold { F.files files.old ≡ None → (input : Input) → result ≡ Err (Stop.Refused (Refusal.CannotRead input)) →
-        Rose (F.faults files.old) (F.faults files.new) }
+        FaultCounted (F.faults files.old) (F.faults files.new) }
 {
     let bytes = read_bytes(files, name, Input::Script)?;
     check_script(&bytes)
@@ -135,10 +135,10 @@ pub(crate) fn read_bytes<F: Files>(
     ensures same { F.files files.new ≡ F.files files.old }
     ensures later { F.faults files.old ≤ F.faults files.new }
     ensures told { (at : Contents) → F.files files.old ≡ Some at →
-        Gives (λ bytes. IsFile input (at name.now) bytes.items)
-        (Excused (Rose (F.faults files.old) (F.faults files.new)) (IsUnreadFile input (at name.now))) result }
+        AcceptsOrRefuses (λ bytes. IsFile input (at name.now) bytes.items)
+        (IsFaultOrRefused (FaultCounted (F.faults files.old) (F.faults files.new)) (IsUnreadFile input (at name.now))) result }
     ensures untold { F.files files.old ≡ None → (which : Input) → result ≡ Err (Stop.Refused (Refusal.CannotRead which)) →
-        Rose (F.faults files.old) (F.faults files.new) }
+        FaultCounted (F.faults files.old) (F.faults files.new) }
 {
     match files.read(name, most_bytes(input)) {
         Ok(FileBytes::Whole(bytes)) => Ok(bytes),
@@ -151,7 +151,7 @@ pub(crate) fn read_bytes<F: Files>(
 
 /// The page that the bytes of a component file mean.
 fn app_page(alloc: Global, bytes: &[u8]) -> Result<Vec<u8>, Stop>
-    ensures { Gives (λ html. IsUtf8 bytes.now × ((nodes : List Node) × IsPageFile bytes.now nodes × ((prefix : List ℕ) → IsDocument prefix html.items nodes)))
+    ensures { AcceptsOrRefuses (λ html. IsUtf8 bytes.now × ((nodes : List Node) × IsPageFile bytes.now nodes × ((prefix : List ℕ) → IsDocument prefix html.items nodes)))
         (IsRefusedApp bytes.now) result }
 {
     let file = match str::from_utf8(bytes) {
@@ -169,7 +169,7 @@ fn app_page(alloc: Global, bytes: &[u8]) -> Result<Vec<u8>, Stop>
 
 /// Whether the bytes are a script of no line.
 fn check_script(bytes: &[u8]) -> Result<(), Stop>
-    ensures { Gives (λ _. IsEmptyScript bytes.now) (IsRefusedScript bytes.now) result }
+    ensures { AcceptsOrRefuses (λ _. IsEmptyScript bytes.now) (IsRefusedScript bytes.now) result }
 {
     match bytes {
         b"[]" | b"[]\n" => Ok(()),

@@ -8,7 +8,7 @@ ghost use Rattle.dom_forest.specs.declared.document.DocNode.{DocNode as Node};
 ghost use Rattle.fizz_cli.specs.Documents.{IsDocument};
 ghost use Rattle.fizz_cli.specs.Source.{Source, IsPageFile, IsBody, most_open};
 ghost use Rattle.fizz_cli.specs.Lexemes.{flat, is_innermost, is_words, lexemes_html, may_follow, opened};
-ghost use Rattle.fizz_cli.specs.LexemeViews.{Puts, lexeme_of, stack_of};
+ghost use Rattle.fizz_cli.specs.LexemeViews.{WritesLexeme, lexeme_of, stack_of};
 
 use document_machine::{laws_of_printing, laws_of_views};
 use fizz_text::OutOfMemory;
@@ -71,7 +71,7 @@ fn put_lexeme<'a>(
     after_text: bool,
     lexeme: Lexeme<'a>,
 ) -> Result<Option<bool>, OutOfMemory>
-    ensures { IfOk result (Puts out.old.items out.new.items (stack_of names.old.items) (stack_of names.new.items) after_text (lexeme_of lexeme.entry)) }
+    ensures { IfOk result (WritesLexeme out.old.items out.new.items (stack_of names.old.items) (stack_of names.new.items) after_text (lexeme_of lexeme.entry)) }
 {
     if !may_follow(names, after_text, &lexeme) {
         return Ok(None);

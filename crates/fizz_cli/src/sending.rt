@@ -1,6 +1,6 @@
 ghost use Rattle.std.specs.Prelude.{◌≡◌, ◌≤◌};
-ghost use Rattle.fizz_outside.specs.Faults.{Rose};
-ghost use Rattle.fizz_cli.specs.Endings.{Sends};
+ghost use Rattle.fizz_outside.specs.Faults.{FaultCounted};
+ghost use Rattle.fizz_cli.specs.Endings.{SendsAll};
 ghost use Rattle.fizz_cli.specs.Notes.{note_of};
 ghost use Rattle.fizz_cli.specs.Statuses.{status_of};
 
@@ -14,9 +14,9 @@ pub(crate) const SINK_FAILED: u8 = 7;
 
 pub(crate) const NO_MEMORY: u8 = 8;
 
-/// Sends bytes to a sink, and ends with the status unless the sink refuses.
+/// SendsAll bytes to a sink, and ends with the status unless the sink refuses.
 pub(crate) fn send<S: Sink>(status: u8, bytes: &[u8], sink: &mut S) -> u8
-    ensures sent { Sends status bytes.now (S.held sink.old) (S.held sink.new) (Rose (S.faults sink.old) (S.faults sink.new)) result }
+    ensures sent { SendsAll status bytes.now (S.held sink.old) (S.held sink.new) (FaultCounted (S.faults sink.old) (S.faults sink.new)) result }
     ensures later { S.faults sink.old ≤ S.faults sink.new }
 {
     match sink.write_all(bytes) {
@@ -33,8 +33,8 @@ pub(crate) fn tell<N: Sink>(
     refusal: &Refusal,
     notes: &mut N,
 ) -> u8
-    ensures sent { Sends (status_of refusal.now) (note_of command.now refusal.now) (N.held notes.old) (N.held notes.new)
-        (Rose (N.faults notes.old) (N.faults notes.new)) result }
+    ensures sent { SendsAll (status_of refusal.now) (note_of command.now refusal.now) (N.held notes.old) (N.held notes.new)
+        (FaultCounted (N.faults notes.old) (N.faults notes.new)) result }
     ensures later { N.faults notes.old ≤ N.faults notes.new }
 {
     match note_of(alloc, command, refusal) {

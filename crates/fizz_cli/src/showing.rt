@@ -2,13 +2,13 @@
 
 ghost use Rattle.std.specs.Prelude.{◌≡◌, ◌≤◌, ◌<◌, ◌+◌, ◌^◌, ℕ, List, [], Some, None, Err, IfErr, OnOk, length};
 ghost use Rattle.fizz_outside.specs.FileContents.{Contents};
-ghost use Rattle.fizz_outside.specs.Faults.{Rose};
-ghost use Rattle.document_machine.specs.Holding.{HasRun, SeesWhole, fed, nothing_run};
+ghost use Rattle.fizz_outside.specs.Faults.{FaultCounted};
+ghost use Rattle.document_machine.specs.MachineState.{HasRun, SeesWhole, fed, nothing_run};
 ghost use Rattle.document_machine.specs.Settled.{settled_of};
 ghost use Rattle.document_machine.specs.Shown.{seen};
 ghost use Rattle.fizz_cli.specs.Refusals.{IsRefusedFile, ShowsFile, most_bytes};
 ghost use Rattle.fizz_cli.specs.Showing.{IsRefusedPage, ShowsDocument};
-ghost use Rattle.fizz_cli.specs.Stops.{Excused, Gives, IsPendingView, IsFedCause, stop_of};
+ghost use Rattle.fizz_cli.specs.Stops.{IsFaultOrRefused, AcceptsOrRefuses, IsPendingView, IsFedCause, stop_of};
 ghost use Rattle.fizz_cli.specs.declared.refusal.Input.{Input};
 ghost use Rattle.fizz_cli.specs.declared.refusal.Refusal.{Refusal};
 
@@ -33,10 +33,10 @@ pub(crate) fn show_file<F: Files>(
     ensures same { F.files files.new ≡ F.files files.old }
     ensures later { F.faults files.old ≤ F.faults files.new }
     ensures told { (at : Contents) → F.files files.old ≡ Some at →
-        Gives (λ out. ShowsFile prefix.now (at name.now) out.items)
-        (Excused (Rose (F.faults files.old) (F.faults files.new)) (IsRefusedFile Input.Page (IsRefusedPage prefix.now) (at name.now))) result }
+        AcceptsOrRefuses (λ out. ShowsFile prefix.now (at name.now) out.items)
+        (IsFaultOrRefused (FaultCounted (F.faults files.old) (F.faults files.new)) (IsRefusedFile Input.Page (IsRefusedPage prefix.now) (at name.now))) result }
     ensures untold { F.files files.old ≡ None → (input : Input) → result ≡ Err (Stop.Refused (Refusal.CannotRead input)) →
-        Rose (F.faults files.old) (F.faults files.new) }
+        FaultCounted (F.faults files.old) (F.faults files.new) }
 {
     let bytes = read_bytes(files, name, Input::Page)?;
     show(alloc, prefix, &bytes)
@@ -44,7 +44,7 @@ pub(crate) fn show_file<F: Files>(
 
 /// The settled document of a page's bytes, as it is printed.
 fn show(alloc: Global, prefix: &Text, bytes: &[u8]) -> Result<Vec<u8>, Stop>
-    ensures { Gives (λ out. ShowsDocument prefix.now bytes.now out.items) (IsRefusedPage prefix.now bytes.now) result }
+    ensures { AcceptsOrRefuses (λ out. ShowsDocument prefix.now bytes.now out.items) (IsRefusedPage prefix.now bytes.now) result }
 {
     let view = run(alloc, prefix, bytes)?;
     let doc = settle(alloc, &view)?;
@@ -53,7 +53,7 @@ fn show(alloc: Global, prefix: &Text, bytes: &[u8]) -> Result<Vec<u8>, Stop>
 
 /// Runs a page to its end.
 fn run(alloc: Global, prefix: &Text, bytes: &[u8]) -> Result<View, Stop>
-    ensures { Gives (SeesWhole (nothing_run prefix.now) bytes.now) (IsRefusedPage prefix.now bytes.now) result }
+    ensures { AcceptsOrRefuses (SeesWhole (nothing_run prefix.now) bytes.now) (IsRefusedPage prefix.now bytes.now) result }
 {
     let mut machine = Machine::new(alloc, prefix.copy(alloc)?);
     if let Err(fault) = feed_all(&mut machine, bytes) {
@@ -83,7 +83,7 @@ fn feed_all(machine: &mut Machine, bytes: &[u8]) -> Result<(), MachineFault>
 
 /// The settled document of a view.
 fn settle(alloc: Global, view: &View) -> Result<Doc, Stop>
-    ensures { Gives (λ doc. settled_of (seen view.now.items) ≡ Some doc.nodes) (IsPendingView (seen view.now.items)) result }
+    ensures { AcceptsOrRefuses (λ doc. settled_of (seen view.now.items) ≡ Some doc.nodes) (IsPendingView (seen view.now.items)) result }
 {
     match view.settled(alloc) {
         Ok(doc) => Ok(doc),

@@ -1,7 +1,7 @@
 ghost use Rattle.std.specs.Prelude.{◌≡◌, ◌≢◌, ◌≤◌, ◌⊎◌, ℕ, List, Some, None};
 ghost use Rattle.std.specs.Io.KnownBytes.{Appends, Keeps};
 ghost use Rattle.fizz_outside.specs.FileContents.{Contents};
-ghost use Rattle.fizz_outside.specs.Faults.{Rose};
+ghost use Rattle.fizz_outside.specs.Faults.{FaultCounted};
 ghost use Rattle.fizz_cli.specs.Commands.{command_of, IsInline};
 ghost use Rattle.fizz_cli.specs.Statuses.{WritesOutput, Tells, IsCut, IsCutCall, IsCalledFor, status_of};
 ghost use Rattle.fizz_cli.specs.Notes.{usage_note};
@@ -32,14 +32,14 @@ pub fn fizz_inline<F: Files, S: Sink, N: Sink>(
     ensures settled { result ≡ 0 → WritesOutput (F.files files.old) command.now (S.held out.old) (S.held out.new)
         × Keeps (N.held notes.old) (N.held notes.new) }
     ensures told { (result ≡ 3) ⊎ (result ≡ 4) → (refusal : Refusal) × (status_of refusal ≡ result)
-        × Tells (F.files files.old) command.now (Rose (F.faults files.old) (F.faults files.new))
+        × Tells (F.files files.old) command.now (FaultCounted (F.faults files.old) (F.faults files.new))
         (S.held out.old) (S.held out.new) (N.held notes.old) (N.held notes.new) refusal }
-    ensures failed { result ≡ 7 → Rose (S.faults out.old) (S.faults out.new) ⊎ Rose (N.faults notes.old) (N.faults notes.new) }
-    ensures cut { (result ≡ 7) ⊎ (result ≡ 8) → IsCut (F.files files.old) command.now (Rose (F.faults files.old) (F.faults files.new))
+    ensures failed { result ≡ 7 → FaultCounted (S.faults out.old) (S.faults out.new) ⊎ FaultCounted (N.faults notes.old) (N.faults notes.new) }
+    ensures cut { (result ≡ 7) ⊎ (result ≡ 8) → IsCut (F.files files.old) command.now (FaultCounted (F.faults files.old) (F.faults files.new))
         (S.held out.old) (S.held out.new) (N.held notes.old) (N.held notes.new) }
     ensures only { (result ≡ 0) ⊎ ((result ≡ 3) ⊎ ((result ≡ 4) ⊎ ((result ≡ 7) ⊎ (result ≡ 8)))) }
-    ensures complete { (at : Contents) → F.files files.old ≡ Some at → (Rose (F.faults files.old) (F.faults files.new) → ⊥) →
-        (Rose (S.faults out.old) (S.faults out.new) → ⊥) → (Rose (N.faults notes.old) (N.faults notes.new) → ⊥) →
+    ensures complete { (at : Contents) → F.files files.old ≡ Some at → (FaultCounted (F.faults files.old) (F.faults files.new) → ⊥) →
+        (FaultCounted (S.faults out.old) (S.faults out.new) → ⊥) → (FaultCounted (N.faults notes.old) (N.faults notes.new) → ⊥) →
         result ≢ 8 → IsCalledFor at command.now result }
 {
     match output_of(alloc, command, files) {
@@ -66,16 +66,16 @@ pub fn fizz<R: Threads + Wait + Sync, F: Files, S: Sink, N: Sink, G: Gate + Sync
     ensures settled { result ≡ 0 → (command : Command) × (command_of words.now ≡ Some command)
         × WritesOutput (F.files files.old) command (S.held out.old) (S.held out.new) × Keeps (N.held notes.old) (N.held notes.new) }
     ensures told { (result ≡ 3) ⊎ (result ≡ 4) → (command : Command) × (command_of words.now ≡ Some command)
-        × ((refusal : Refusal) × (status_of refusal ≡ result) × Tells (F.files files.old) command (Rose (F.faults files.old) (F.faults files.new))
+        × ((refusal : Refusal) × (status_of refusal ≡ result) × Tells (F.files files.old) command (FaultCounted (F.faults files.old) (F.faults files.new))
         (S.held out.old) (S.held out.new) (N.held notes.old) (N.held notes.new) refusal) }
-    ensures failed { result ≡ 7 → Rose (S.faults out.old) (S.faults out.new) ⊎ Rose (N.faults notes.old) (N.faults notes.new) }
-    ensures cut { (result ≡ 7) ⊎ (result ≡ 8) → IsCutCall words.now (F.files files.old) (Rose (F.faults files.old) (F.faults files.new))
+    ensures failed { result ≡ 7 → FaultCounted (S.faults out.old) (S.faults out.new) ⊎ FaultCounted (N.faults notes.old) (N.faults notes.new) }
+    ensures cut { (result ≡ 7) ⊎ (result ≡ 8) → IsCutCall words.now (F.files files.old) (FaultCounted (F.faults files.old) (F.faults files.new))
         (S.held out.old) (S.held out.new) (N.held notes.old) (N.held notes.new) }
     ensures only { (result ≡ 2) ⊎ ((result ≡ 0) ⊎ ((result ≡ 3) ⊎ ((result ≡ 4) ⊎ ((result ≡ 7) ⊎ (result ≡ 8))))) }
-    ensures unmeant { command_of words.now ≡ None → (Rose (N.faults notes.old) (N.faults notes.new) → ⊥) → result ≢ 8 → result ≡ 2 }
+    ensures unmeant { command_of words.now ≡ None → (FaultCounted (N.faults notes.old) (N.faults notes.new) → ⊥) → result ≢ 8 → result ≡ 2 }
     ensures complete { (command : Command) → command_of words.now ≡ Some command → (at : Contents) → F.files files.old ≡ Some at →
-        (Rose (F.faults files.old) (F.faults files.new) → ⊥) → (Rose (S.faults out.old) (S.faults out.new) → ⊥) →
-        (Rose (N.faults notes.old) (N.faults notes.new) → ⊥) → result ≢ 8 → IsCalledFor at command result }
+        (FaultCounted (F.faults files.old) (F.faults files.new) → ⊥) → (FaultCounted (S.faults out.old) (S.faults out.new) → ⊥) →
+        (FaultCounted (N.faults notes.old) (N.faults notes.new) → ⊥) → result ≢ 8 → IsCalledFor at command result }
 {
     match read_words(alloc, words) {
         Ok(command) => fizz_inline(alloc, &command, files, out, notes),

@@ -2,5 +2,5 @@
 use Rattle.std.specs.Prelude.{ℕ, ◌+◌, ◌-◌, ◌^◌, ◌≤◌, min}
 
 -- a fault was counted: the count rose by one at least, or stands at the greatest that it can have
-abbrev pub Rose : ℕ → ℕ → Type 0
-Rose before now = min (before + 1) (2 ^ 64 - 1) ≤ now
+abbrev pub FaultCounted : ℕ → ℕ → Type 0
+FaultCounted before now = min (before + 1) (2 ^ 64 - 1) ≤ now

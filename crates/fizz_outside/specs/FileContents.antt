@@ -4,7 +4,7 @@ use Rattle.fizz_outside.specs.declared.files.FileBytes.{FileBytes}
 use Rattle.fizz_outside.specs.declared.files.FileBytes.TheVariants.{Whole, TooLong}
 use Rattle.fizz_outside.specs.declared.files.FilesRefused.{FilesRefused}
 use Rattle.fizz_outside.specs.declared.files.FilesRefused.TheVariants.{NoFile, Failed, OutOfMemory}
-use Rattle.fizz_outside.specs.Faults.{Rose}
+use Rattle.fizz_outside.specs.Faults.{FaultCounted}
 
 -- the bytes of the file of a name, where there is one
 abbrev pub Contents : Type 0
@@ -36,5 +36,5 @@ Writes (Some at) (Some now) name bytes result = WriteAnswers at now name bytes r
 -- the count of faults never falls, rose where the call failed, and stays where there is no such file
 pub record HasFileCause {T : Type 0} (before now : ℕ) (result : Result T FilesRefused) : Type 0 where
   pub later : before ≤ now
-  pub failed : result ≡ Err Failed → Rose before now
+  pub failed : result ≡ Err Failed → FaultCounted before now
   pub missing : result ≡ Err NoFile → now ≡ before

@@ -1,5 +1,5 @@
 ghost use Rattle.std.specs.Prelude.{◌≡◌, ◌≢◌, ◌≤◌, None};
-ghost use Rattle.fizz_outside.specs.Faults.{Rose};
+ghost use Rattle.fizz_outside.specs.Faults.{FaultCounted};
 
 use crate::files::{FileBytes, Files, FilesRefused};
 use fizz_text::Text;
@@ -42,7 +42,7 @@ impl<'a, R: rt::Files> DiskFiles<'a, R> {
     fn refused(&mut self, error: io::Error) -> FilesRefused
         ensures never { result ≢ FilesRefused.NoFile }
         ensures later { self.old.faults ≤ self.new.faults }
-        ensures failed { result ≡ FilesRefused.Failed → Rose self.old.faults self.new.faults }
+        ensures failed { result ≡ FilesRefused.Failed → FaultCounted self.old.faults self.new.faults }
     {
         if error.kind() == ErrorKind::OutOfMemory {
             return FilesRefused::OutOfMemory;

@@ -1,7 +1,7 @@
 ghost use Rattle.std.specs.Prelude.{◌≡◌, ◌+◌, ◌≤◌, ◌<◌, length, take, drop, MatchOption, IfSome, OnErr};
 ghost use Rattle.std.specs.Io.KnownBytes.{Appends, Keeps};
 ghost use Rattle.fizz_outside.specs.Sinks.{Takes, HasSinkCause};
-ghost use Rattle.fizz_outside.specs.Faults.{Rose};
+ghost use Rattle.fizz_outside.specs.Faults.{FaultCounted};
 
 use crate::sink::{Sink, SinkRefused};
 use std::io::{ErrorKind, Write};

@@ -11,8 +11,8 @@ use Rattle.fizz_text.specs.declared.attribute.Attr.{Attr}
 use Rattle.html_names.specs.Escape.{escaped, IsFirstBad}
 use Rattle.html_names.proofs.Unescaping.{clean_when_escaped}
 use Rattle.html_names.proofs.Utf8.{AreAscii, utf8_ascii}
-use Rattle.html_read.specs.declared.token.Tok.{Tok}
-use Rattle.html_read.specs.declared.token.Tok.TheVariants.{Start, End, Void, Text, Comment, Script}
+use Rattle.html_read.specs.declared.token.Token.{Token}
+use Rattle.html_read.specs.declared.token.Token.TheVariants.{Start, End, Void, Text, Comment, Script}
 use Rattle.html_read.specs.Names.{is_letter, is_digit, continues_attribute_name, IsTagName, IsAttributeName}
 use Rattle.html_names.specs.Printing.{written_value, written_attribute, written_attributes, tag_front}
 use Rattle.html_read.specs.Tokens.{HasValue, IsAttribute, AreAttributes}
@@ -172,7 +172,7 @@ pub tag_at : (name : List ℕ) (attributes : List Attr) (tail more : List ℕ) (
 tag_at name attributes tail more c t n e = tag_second name c (written_attributes attributes ++ tail) more (tag_name_letter name t) n (sym (append_assoc (60 ∷ name) (written_attributes attributes) tail) ∙ e)
 
 -- Each kind of token by its first bytes.
-pub text_branch : (bytes : List ℕ) (from : ℕ) (found : Option Tok) → starts_with nat_eq bytes (codes "<") ≡ false → IsTextTokenOf bytes from found → IsTokenOf bytes from found
+pub text_branch : (bytes : List ℕ) (from : ℕ) (found : Option Token) → starts_with nat_eq bytes (codes "<") ≡ false → IsTextTokenOf bytes from found → IsTokenOf bytes from found
 text_branch bytes from found n is (Start name attributes place) t e p = absurd (prefix_not bytes (codes "<") _ n e)
 text_branch bytes from found n is (End name place) t e p = absurd (prefix_not bytes (codes "<") _ n e)
 text_branch bytes from found n is (Void name attributes place) t e p = absurd (prefix_not bytes (codes "<") _ n e)
@@ -180,7 +180,7 @@ text_branch bytes from found n is (Text text place) t e p = is text t.1 e ∙ ap
 text_branch bytes from found n is (Comment which place) t e p = absurd (prefix_not bytes (codes "<") _ n e)
 text_branch bytes from found n is (Script body place) t e p = absurd (prefix_not bytes (codes "<") _ n e)
 
-pub end_branch : (bytes : List ℕ) (from : ℕ) (found : Option Tok) → starts_with nat_eq bytes (codes "</") ≡ true → IsEndOf bytes from found → IsTokenOf bytes from found
+pub end_branch : (bytes : List ℕ) (from : ℕ) (found : Option Token) → starts_with nat_eq bytes (codes "</") ≡ true → IsEndOf bytes from found → IsTokenOf bytes from found
 end_branch bytes from found h is (Start name attributes place) t e p = absurd (tag_at name attributes (codes ">") _ 47 t.0 refl (sym e ∙ prefix_is bytes (codes "</") h))
 end_branch bytes from found h is (End name place) t e p = is name t e ∙ ap (λ x. Some (End name x)) (sym p)
 end_branch bytes from found h is (Void name attributes place) t e p = absurd (tag_at name attributes (codes "/>") _ 47 (tag_of_flag name true (flag_of_void name t.0)) refl (sym e ∙ prefix_is bytes (codes "</") h))
@@ -188,7 +188,7 @@ end_branch bytes from found h is (Text text place) t e p = absurd (text_first te
 end_branch bytes from found h is (Comment which place) t e p = absurd (apart_second 33 47 _ _ bytes (λ k. omega arith) e (prefix_is bytes (codes "</") h))
 end_branch bytes from found h is (Script body place) t e p = absurd (apart_second 115 47 _ _ bytes (λ k. omega arith) e (prefix_is bytes (codes "</") h))
 
-pub comment_branch : (bytes : List ℕ) (from : ℕ) (found : Option Tok) → starts_with nat_eq bytes (codes "<!") ≡ true → IsCommentOf bytes from found → IsTokenOf bytes from found
+pub comment_branch : (bytes : List ℕ) (from : ℕ) (found : Option Token) → starts_with nat_eq bytes (codes "<!") ≡ true → IsCommentOf bytes from found → IsTokenOf bytes from found
 comment_branch bytes from found h is (Start name attributes place) t e p = absurd (tag_at name attributes (codes ">") _ 33 t.0 refl (sym e ∙ prefix_is bytes (codes "<!") h))
 comment_branch bytes from found h is (End name place) t e p = absurd (apart_second 47 33 _ _ bytes (λ k. omega arith) e (prefix_is bytes (codes "<!") h))
 comment_branch bytes from found h is (Void name attributes place) t e p = absurd (tag_at name attributes (codes "/>") _ 33 (tag_of_flag name true (flag_of_void name t.0)) refl (sym e ∙ prefix_is bytes (codes "<!") h))
@@ -205,7 +205,7 @@ no_script_tag name attributes tail more t ends e =
     cut_at (codes "script") 62 more (drop 1 bytes) (front_len continues_attribute_name (drop 1 bytes)) refl refl (ap (drop 1) e) refl in
     none_true (sym (tag_name_not_script name t) ∙ (bytes_eq-Decides name (codes "script")).1 (sym here.front ∙ there.front))
 
-pub script_branch : (bytes : List ℕ) (from : ℕ) (found : Option Tok) → starts_with nat_eq bytes (codes "<script>") ≡ true → IsScriptOf bytes from found → IsTokenOf bytes from found
+pub script_branch : (bytes : List ℕ) (from : ℕ) (found : Option Token) → starts_with nat_eq bytes (codes "<script>") ≡ true → IsScriptOf bytes from found → IsTokenOf bytes from found
 script_branch bytes from found h is (Start name attributes place) t e p = absurd (no_script_tag name attributes (codes ">") _ t.0 start_ends (sym e ∙ prefix_is bytes (codes "<script>") h))
 script_branch bytes from found h is (End name place) t e p = absurd (apart_second 47 115 _ _ bytes (λ k. omega arith) e (prefix_is bytes (codes "<script>") h))
 script_branch bytes from found h is (Void name attributes place) t e p = absurd (no_script_tag name attributes (codes "/>") _ (tag_of_flag name true (flag_of_void name t.0)) void_ends (sym e ∙ prefix_is bytes (codes "<script>") h))
@@ -213,7 +213,7 @@ script_branch bytes from found h is (Text text place) t e p = absurd (text_first
 script_branch bytes from found h is (Comment which place) t e p = absurd (apart_second 33 115 _ _ bytes (λ k. omega arith) e (prefix_is bytes (codes "<script>") h))
 script_branch bytes from found h is (Script body place) t e p = is body e ∙ ap (λ x. Some (Script body x)) (sym p)
 
-pub tag_branch : (bytes : List ℕ) (from : ℕ) (found : Option Tok) → starts_with nat_eq bytes (codes "<") ≡ true → starts_with nat_eq bytes (codes "</") ≡ false → starts_with nat_eq bytes (codes "<!") ≡ false
+pub tag_branch : (bytes : List ℕ) (from : ℕ) (found : Option Token) → starts_with nat_eq bytes (codes "<") ≡ true → starts_with nat_eq bytes (codes "</") ≡ false → starts_with nat_eq bytes (codes "<!") ≡ false
     → starts_with nat_eq bytes (codes "<script>") ≡ false → IsTagOf bytes from found → IsTokenOf bytes from found
 tag_branch bytes from found h m n o is (Start name attributes place) t e p = is.start name attributes t.0 t.1 e ∙ ap (λ x. Some (Start name attributes x)) (sym p)
 tag_branch bytes from found h m n o is (End name place) t e p = absurd (prefix_not bytes (codes "</") _ m e)

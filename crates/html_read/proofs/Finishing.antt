@@ -5,8 +5,8 @@ use Rattle.std.proofs.lemmas.Bool.{cases_Bool, eqb-true, eqb-false}
 use Rattle.std.proofs.lemmas.List.{nil_from_length}
 use Rattle.html_names.specs.Escape.{spelling_of, escaped}
 use Rattle.html_names.proofs.Escaping.{spelling_some}
-use Rattle.html_read.specs.declared.token.Tok.{Tok}
-use Rattle.html_read.specs.declared.token.Tok.TheVariants as toks
+use Rattle.html_read.specs.declared.token.Token.{Token}
+use Rattle.html_read.specs.declared.token.Token.TheVariants as toks
 use Rattle.html_read.specs.declared.fault.ReadKind.{ReadKind}
 use Rattle.html_read.specs.declared.place.Place.{Place}
 use Rattle.html_read.specs.declared.place.Place.TheVariants.{Whole, Char, Entity}
@@ -16,7 +16,7 @@ use Rattle.html_read.specs.Tokens.{spellings, AreTokens, MayFollow, Tokenizes, s
 use Rattle.html_read.specs.Machine.{go_on, mode_after, mode_of, is_whole_place, is_whole_text}
 use Rattle.html_read.specs.Building.{IsTokenOf}
 use Rattle.html_read.specs.Faults.{ends_in_text}
-use Rattle.html_read.specs.Reading.{HasRead, Held, IsUnfinished, IsLast, IsTextSoFar}
+use Rattle.html_read.specs.Reading.{HasRead, ReaderState, IsUnfinished, IsLast, IsTextSoFar}
 use Rattle.html_read.proofs.WordFronts.{none_true}
 use Rattle.html_read.proofs.Fits.{IsSpelling, whole_text}
 use Rattle.html_read.proofs.Running.{mode_append, text_mode, text_through}
@@ -30,13 +30,13 @@ none_mode : (o : Option Mode) (n : Mode) → o ≡ None → o ≡ Some n → ⊥
 none_mode o n e f = cc
 
 -- After a whole token that is no text no mode is left.
-other_mode : (tok : Tok) → IsTok tok → is_text tok ≡ false → mode_of (spelling tok) ≡ None
+other_mode : (tok : Token) → IsTok tok → is_text tok ≡ false → mode_of (spelling tok) ≡ None
 unfolding mode_of
 other_mode tok h n =
     let p : Passes (spelling tok) = tok_passes tok h n in
     ap (mode_after (Text Whole) []) p.is ∙ (mode_append Name (60 ∷ []) p.front (p.last ∷ []) p.mode p.through ∙ ap (λ t. go_on t (λ m. Some m)) p.ends)
 
-text_ends : (tok : Tok) → IsTok tok → is_text tok ≡ true → mode_of (spelling tok) ≡ Some (Text Whole)
+text_ends : (tok : Token) → IsTok tok → is_text tok ≡ true → mode_of (spelling tok) ≡ Some (Text Whole)
 unfolding mode_of
 text_ends (toks.Start name attributes from) h t = absurd (none_true t)
 text_ends (toks.End name from) h t = absurd (none_true t)
@@ -46,21 +46,21 @@ text_ends (toks.Comment which from) h t = absurd (none_true t)
 text_ends (toks.Script body from) h t = absurd (none_true t)
 
 -- What is a whole token is a text, between its characters.
-whole_is_text : (tok : Tok) (rest : List ℕ) (mode : Mode) → mode_of rest ≡ Some mode → IsTok tok → rest ≡ spelling tok → mode ≡ Text Whole
+whole_is_text : (tok : Token) (rest : List ℕ) (mode : Mode) → mode_of rest ≡ Some mode → IsTok tok → rest ≡ spelling tok → mode ≡ Text Whole
 whole_is_text tok rest mode e h s =
     ⊎_elim (λ t. some_mode (mode_of rest) mode (Text Whole) e (ap mode_of s ∙ text_ends tok h t)) (λ f. absurd (none_mode (mode_of rest) mode (ap mode_of s ∙ other_mode tok h f) e)) (cases_Bool (is_text tok))
 
-pub unfinished : (held : Held) (mode : Mode) → held.fault ≡ None → mode_of held.rest ≡ Some mode → held.rest ≢ [] → mode ≢ Text Whole → IsUnfinished held held.place
+pub unfinished : (held : ReaderState) (mode : Mode) → held.fault ≡ None → mode_of held.rest ≡ Some mode → held.rest ≢ [] → mode ≢ Text Whole → IsUnfinished held held.place
 unfinished held mode sound e some n = record { sound = sound; place_is = refl; some = some; no_token = λ tok h s. n (whole_is_text tok held.rest mode e h s) }
 
 -- The text that is open.
-pub open_text_is : (held : Held) (mode : Mode) (found : Option Tok) → held.fault ≡ None → mode_of held.rest ≡ Some mode → held.rest ≢ [] → mode ≡ Text Whole → IsTokenOf held.rest held.place found → IsLast held found
+pub open_text_is : (held : ReaderState) (mode : Mode) (found : Option Token) → held.fault ≡ None → mode_of held.rest ≡ Some mode → held.rest ≢ [] → mode ≡ Text Whole → IsTokenOf held.rest held.place found → IsLast held found
 open_text_is held mode found sound e some m is =
     let k : IsSpelling true held.rest held.place = whole_text held.rest held.place (mode_fits (Text Whole) held.rest (e ∙ ap (λ x. Some x) m)) some in
     let f : found ≡ Some k.tok = is k.tok k.is_tok k.spelled k.place_is in
     subst (IsLast held) (sym f) (record { sound = sound; text = k.text_is; is_tok = k.is_tok; place_is = k.place_is; spelled = k.spelled })
 
-pub last_so_far : (held : Held) (found : Option Tok) → held.rest ≢ [] → IsLast held found → IsTextSoFar held found
+pub last_so_far : (held : ReaderState) (found : Option Token) → held.rest ≢ [] → IsLast held found → IsTextSoFar held found
 last_so_far held None some h = absurd (some h.1)
 last_so_far held (Some tok) some h = h
 
@@ -71,7 +71,7 @@ escaped_none (b ∷ text) e = absurd (no_nothing (length (escaped (b ∷ text)))
     no_nothing : (n : ℕ) → n ≡ 0 → 0 < n → ⊥
     no_nothing n z l = omega arith
 
-text_some : (tok : Tok) → IsTok tok → is_text tok ≡ true → spelling tok ≢ []
+text_some : (tok : Token) → IsTok tok → is_text tok ≡ true → spelling tok ≢ []
 text_some (toks.Start name attributes from) h t e = absurd (none_true t)
 text_some (toks.End name from) h t e = absurd (none_true t)
 text_some (toks.Void name attributes from) h t e = absurd (none_true t)
@@ -82,13 +82,13 @@ text_some (toks.Script body from) h t e = absurd (none_true t)
 some_none : (x : ℕ × ReadKind) → ◌≡◌ {A = Option (ℕ × ReadKind)} (Some x) None → ⊥
 some_none x e = cc
 
-no_text_at_fault : (held : Held) (x : ℕ × ReadKind) → held.fault ≡ Some x → IsTextSoFar held None
+no_text_at_fault : (held : ReaderState) (x : ℕ × ReadKind) → held.fault ≡ Some x → IsTextSoFar held None
 no_text_at_fault held x e tok h = some_none x (sym e ∙ h.sound)
 
-pub no_text_when_empty : (held : Held) → held.rest ≡ [] → IsTextSoFar held None
+pub no_text_when_empty : (held : ReaderState) → held.rest ≡ [] → IsTextSoFar held None
 no_text_when_empty held e tok h = text_some tok h.is_tok h.text (sym h.spelled ∙ e)
 
-pub no_text_else : (held : Held) (mode : Mode) → mode_of held.rest ≡ Some mode → mode ≢ Text Whole → IsTextSoFar held None
+pub no_text_else : (held : ReaderState) (mode : Mode) → mode_of held.rest ≡ Some mode → mode ≢ Text Whole → IsTextSoFar held None
 no_text_else held mode e n tok h = n (whole_is_text tok held.rest mode e h.is_tok h.spelled)
 
 place_whole : (place : Place) → is_whole_place place ≡ true → place ≡ Whole
@@ -126,11 +126,11 @@ some_of : (o : Option (ℕ × ReadKind)) → is_some o ≡ true → (x : ℕ × 
 some_of None h = absurd (none_true h)
 some_of (Some x) h = (x, refl)
 
-pub no_text_faulty : (held : Held) → is_some held.fault ≡ true → IsTextSoFar held None
+pub no_text_faulty : (held : ReaderState) → is_some held.fault ≡ true → IsTextSoFar held None
 no_text_faulty held h = let s : (x : ℕ × ReadKind) × (held.fault ≡ Some x) = some_of held.fault h in no_text_at_fault held s.0 s.1
 
 -- The tokens that were given and the last one are those of the stream.
-pub last_whole : (held : Held) (last : Option Tok) → IsLast held last → (bytes : List ℕ) (toks : List Tok) → HasRead bytes toks held → Tokenizes bytes (toks ++ option_to_list last)
+pub last_whole : (held : ReaderState) (last : Option Token) → IsLast held last → (bytes : List ℕ) (toks : List Token) → HasRead bytes toks held → Tokenizes bytes (toks ++ option_to_list last)
 last_whole held None h bytes toks r = record {
   spelled = r.split.whole ∙ (ap (λ x. spellings toks ++ x) h.1 ∙ (append-nil (spellings toks) ∙ ap spellings (sym (append-nil toks))));
   tokens = subst AreTokens (sym (append-nil toks)) r.split.tokens;

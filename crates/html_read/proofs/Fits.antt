@@ -11,10 +11,10 @@ use Rattle.std.proofs.lemmas.Str.{IsUtf8-nil}
 use Rattle.fizz_text.specs.declared.attribute.Attr.{Attr}
 use Rattle.html_names.specs.Escape.{escaped, entities}
 use Rattle.html_names.specs.Elements.{element_rows}
-use Rattle.html_read.specs.declared.token.Said.{Said}
-use Rattle.html_read.specs.declared.token.Said.TheVariants as saids
-use Rattle.html_read.specs.declared.token.Tok.{Tok}
-use Rattle.html_read.specs.declared.token.Tok.TheVariants as toks
+use Rattle.html_read.specs.declared.token.CommentKind.{CommentKind}
+use Rattle.html_read.specs.declared.token.CommentKind.TheVariants as saids
+use Rattle.html_read.specs.declared.token.Token.{Token}
+use Rattle.html_read.specs.declared.token.Token.TheVariants as toks
 use Rattle.html_read.specs.declared.place.Tail.{Tail}
 use Rattle.html_read.specs.declared.place.Tail.TheVariants.{One, Two, Three, AfterE0, AfterEd, AfterF0, AfterF4}
 use Rattle.html_read.specs.declared.place.Place.{Place}
@@ -120,7 +120,7 @@ Fits Slash seen = InSlash seen
 
 -- The bytes are a token, wherever it stands: a text or another.
 pub record IsSpelling (text : Bool) (bytes : List ℕ) (from : ℕ) : Type 0 where
-  pub tok : Tok
+  pub tok : Token
   pub is_tok : IsTok tok
   pub spelled : bytes ≡ spelling tok
   pub text_is : is_text tok ≡ text
@@ -268,10 +268,10 @@ end_name_good name b =
 
 -- the five comments
 pub record IsSaid (word : List ℕ) : Type 0 where
-  pub which : Said
+  pub which : CommentKind
   pub is : word ≡ codes "--" ++ (said which ++ codes "-->")
 
-said_at : (word : List ℕ) (which : Said) → bytes_eq (codes "--" ++ (said which ++ codes "-->")) word ≡ true → IsSaid word
+said_at : (word : List ℕ) (which : CommentKind) → bytes_eq (codes "--" ++ (said which ++ codes "-->")) word ≡ true → IsSaid word
 said_at word which e = record { which = which; is = sym ((bytes_eq-Decides _ word).0 e) }
 
 pub comment_word : (word : List ℕ) → is_word comment_words word ≡ true → IsSaid word

@@ -2,8 +2,8 @@
 use Rattle.std.proofs.Common.{◌≡◌, ℕ, ◌+◌, Bool, true, false, if◌then◌else◌, Option, Some, None, List, [], ◌∷◌, ◌++◌, length, refl, sym, ◌∙◌, ap, subst, ⊎_elim, arith, append-nil, append_assoc, length-append}
 use Rattle.std.proofs.lemmas.Bool.{cond-false, ne_eqb, cases_Bool, eqb-true, true≢false}
 use Rattle.html_names.specs.Escape.{escaped}
-use Rattle.html_read.specs.declared.token.Tok.{Tok}
-use Rattle.html_read.specs.declared.token.Tok.TheVariants as toks
+use Rattle.html_read.specs.declared.token.Token.{Token}
+use Rattle.html_read.specs.declared.token.Token.TheVariants as toks
 use Rattle.html_read.specs.declared.place.Place.TheVariants.{Whole}
 use Rattle.html_read.specs.declared.machine.Mode.{Mode}
 use Rattle.html_read.specs.declared.machine.Mode.TheVariants.{Text, Name}
@@ -58,7 +58,7 @@ lives_tag (s ∷ seen) bs =
     ap (λ t. live_on t (λ m. lives m ((s ∷ seen) ++ 60 ∷ []) bs) (lives (Text Whole) [] bs) (lives Name (60 ∷ []) bs)) (cuts_here s seen)
 
 -- The bytes of a token that is no text.
-pub lives_tok : (tok : Tok) (seen more : List ℕ) → IsTok tok → is_text tok ≡ false → lives (Text Whole) seen (spelling tok ++ more) ≡ lives (Text Whole) [] more
+pub lives_tok : (tok : Token) (seen more : List ℕ) → IsTok tok → is_text tok ≡ false → lives (Text Whole) seen (spelling tok ++ more) ≡ lives (Text Whole) [] more
 lives_tok tok seen more h n =
     let p : Passes (spelling tok) = tok_passes tok h n in
     let split : spelling tok ++ more ≡ 60 ∷ (p.front ++ p.last ∷ more) = ap (λ x. x ++ more) p.is ∙ append_assoc (60 ∷ p.front) (p.last ∷ []) more in
@@ -67,7 +67,7 @@ lives_tok tok seen more h n =
     ap (lives (Text Whole) seen) split ∙ (lives_tag seen (p.front ++ p.last ∷ more) ∙ (lives_after Name p.mode (60 ∷ []) p.front (p.last ∷ more) p.through ∙ last))
 
 -- What of the text before, if there is one, is still in the reader after tokens.
-abbrev pub text_left : List ℕ → List Tok → List ℕ
+abbrev pub text_left : List ℕ → List Token → List ℕ
 text_left seen [] = seen
 text_left seen (tok ∷ toks) = text_left (if is_text tok then spelling tok else []) toks
 
@@ -75,7 +75,7 @@ before_text : (after : Bool) → MayFollow after true → after ≡ false
 before_text true m = absurd m
 before_text false m = refl
 
-text_goes : (tok : Tok) → IsTok tok → is_text tok ≡ true → mode_after (Text Whole) [] (spelling tok) ≡ Some (Text Whole)
+text_goes : (tok : Token) → IsTok tok → is_text tok ≡ true → mode_after (Text Whole) [] (spelling tok) ≡ Some (Text Whole)
 text_goes (toks.Start name attributes from) h t = absurd (none_true t)
 text_goes (toks.End name from) h t = absurd (none_true t)
 text_goes (toks.Void name attributes from) h t = absurd (none_true t)
@@ -83,7 +83,7 @@ text_goes (toks.Text text from) h t = text_mode Whole Whole [] (escaped text) (t
 text_goes (toks.Comment which from) h t = absurd (none_true t)
 text_goes (toks.Script body from) h t = absurd (none_true t)
 
-pub lives_toks : (toks : List Tok) (place : ℕ) (after : Bool) (seen more : List ℕ) → AreTokensFrom place after toks → (after ≡ false → seen ≡ [])
+pub lives_toks : (toks : List Token) (place : ℕ) (after : Bool) (seen more : List ℕ) → AreTokensFrom place after toks → (after ≡ false → seen ≡ [])
     → lives (Text Whole) seen (spellings toks ++ more) ≡ lives (Text Whole) (text_left seen toks) more
 lives_toks [] place after seen more h n = refl
 lives_toks (tok ∷ rest) place after seen more h n =
@@ -104,7 +104,7 @@ lives_toks (tok ∷ rest) place after seen more h n =
     ⊎_elim text other (cases_Bool (is_text tok))
 
 -- A page is passed over.
-pub lives_page : (bytes : List ℕ) (toks : List Tok) → Tokenizes bytes toks → lives (Text Whole) [] bytes ≡ true
+pub lives_page : (bytes : List ℕ) (toks : List Token) → Tokenizes bytes toks → lives (Text Whole) [] bytes ≡ true
 lives_page bytes toks t =
     ap (lives (Text Whole) []) (t.spelled ∙ sym (append-nil (spellings toks))) ∙ lives_toks toks 0 false [] [] t.tokens (λ e. refl)
 
@@ -126,7 +126,7 @@ lives_front mode seen (b ∷ xs) ys h =
 pub alive_lives : (front : List ℕ) → IsAlive front → lives (Text Whole) [] front ≡ true
 alive_lives front a = lives_front (Text Whole) [] front a.0 (lives_page (front ++ a.0) a.1 a.2)
 
-ends_left : (toks : List Tok) (place : ℕ) (after : Bool) (seen : List ℕ) → (after ≡ false → seen ≡ []) → ends_in_text after toks ≡ false → text_left seen toks ≡ []
+ends_left : (toks : List Token) (place : ℕ) (after : Bool) (seen : List ℕ) → (after ≡ false → seen ≡ []) → ends_in_text after toks ≡ false → text_left seen toks ≡ []
 ends_left [] place after seen n e = n e
 ends_left (tok ∷ rest) place after seen n e =
     ends_left rest place (is_text tok) (if is_text tok then spelling tok else []) (λ f. cond-false (is_text tok) (spelling tok) [] f) e
@@ -138,7 +138,7 @@ tag_alone seen (b ∷ bs) h =
     let is : b ≡ 60 = eqb-true b 60 h in
     ap (λ x. lives (Text Whole) seen (x ∷ bs)) is ∙ (lives_tag seen bs ∙ (sym (lives_tag [] bs) ∙ ap (λ x. lives (Text Whole) [] (x ∷ bs)) (sym is)))
 
-pub lives_rest : (toks : List Tok) (rest : List ℕ) → AreTokens toks → (ends_in_text false toks ≡ true → begins_tag rest ≡ true)
+pub lives_rest : (toks : List Token) (rest : List ℕ) → AreTokens toks → (ends_in_text false toks ≡ true → begins_tag rest ≡ true)
     → lives (Text Whole) [] (spellings toks ++ rest) ≡ lives (Text Whole) [] rest
 lives_rest toks rest h e =
     let all : lives (Text Whole) [] (spellings toks ++ rest) ≡ lives (Text Whole) (text_left [] toks) rest = lives_toks toks 0 false [] rest h (λ f. refl) in

@@ -9,10 +9,10 @@ use Rattle.std.proofs.lemmas.Slice.Eq.{bytes_eq-Decides, ends_is}
 use Rattle.fizz_text.specs.declared.attribute.Attr.{Attr}
 use Rattle.html_names.specs.Escape.{escaped}
 use Rattle.html_names.specs.Elements.{element_rows}
-use Rattle.html_read.specs.declared.token.Said.{Said}
-use Rattle.html_read.specs.declared.token.Said.TheVariants as saids
-use Rattle.html_read.specs.declared.token.Tok.{Tok}
-use Rattle.html_read.specs.declared.token.Tok.TheVariants as toks
+use Rattle.html_read.specs.declared.token.CommentKind.{CommentKind}
+use Rattle.html_read.specs.declared.token.CommentKind.TheVariants as saids
+use Rattle.html_read.specs.declared.token.Token.{Token}
+use Rattle.html_read.specs.declared.token.Token.TheVariants as toks
 use Rattle.html_read.specs.declared.fault.ReadKind.TheVariants as kinds
 use Rattle.html_read.specs.declared.place.Place.TheVariants.{Whole}
 use Rattle.html_read.specs.declared.machine.Mode.{Mode}
@@ -196,7 +196,7 @@ bang_goes = refl
 comment_on : (front : List ℕ) → mode_after Comment (60 ∷ 33 ∷ []) front ≡ Some Comment → mode_after Name (60 ∷ []) (33 ∷ front) ≡ Some Comment
 comment_on front h = ap (λ t. go_on t (λ m. mode_after m (60 ∷ 33 ∷ []) front)) bang_goes ∙ h
 
-comment_passes : (which : Said) → Passes (codes "<!--" ++ (said which ++ codes "-->"))
+comment_passes : (which : CommentKind) → Passes (codes "<!--" ++ (said which ++ codes "-->"))
 comment_passes saids.Complete = record { front = codes "!--$--"; last = 62; mode = Comment; is = refl; through = comment_on (codes "--$--") refl; ends = refl }
 comment_passes saids.Pending = record { front = codes "!--$?--"; last = 62; mode = Comment; is = refl; through = comment_on (codes "--$?--") refl; ends = refl }
 comment_passes saids.Client = record { front = codes "!--$!--"; last = 62; mode = Comment; is = refl; through = comment_on (codes "--$!--") refl; ends = refl }
@@ -252,7 +252,7 @@ script_passes body fine =
     }
 
 -- Each token that is no text.
-pub tok_passes : (tok : Tok) → IsTok tok → is_text tok ≡ false → Passes (spelling tok)
+pub tok_passes : (tok : Token) → IsTok tok → is_text tok ≡ false → Passes (spelling tok)
 tok_passes (toks.Start name attributes from) h n = start_passes name attributes h.0 h.1
 tok_passes (toks.End name from) h n = end_passes name h
 tok_passes (toks.Void name attributes from) h n = void_passes name attributes (flag_of_void name h.0) h.1

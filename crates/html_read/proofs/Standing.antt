@@ -6,8 +6,8 @@ use Rattle.std.proofs.lemmas.List.{take_at}
 use Rattle.std.proofs.lemmas.Str.{IsUtf8-nil}
 use Rattle.html_names.specs.Escape.{spelling_of, escaped}
 use Rattle.html_names.proofs.Escaping.{each_byte, plain_spelling}
-use Rattle.html_read.specs.declared.token.Tok.{Tok}
-use Rattle.html_read.specs.declared.token.Tok.TheVariants as toks
+use Rattle.html_read.specs.declared.token.Token.{Token}
+use Rattle.html_read.specs.declared.token.Token.TheVariants as toks
 use Rattle.html_read.specs.declared.fault.ReadKind.{ReadKind}
 use Rattle.html_read.specs.declared.place.Place.TheVariants.{Whole}
 use Rattle.html_read.specs.declared.machine.Mode.{Mode}
@@ -60,17 +60,17 @@ unfolding mode_of
 mode_more mode next rest b e t = mode_append (Text Whole) [] rest (b ∷ []) mode e ∙ ap (λ x. go_on x (λ m. Some m)) t
 
 -- One token more.
-pub spellings_push : (toks : List Tok) (tok : Tok) → spellings (toks ++ tok ∷ []) ≡ spellings toks ++ spelling tok
+pub spellings_push : (toks : List Token) (tok : Token) → spellings (toks ++ tok ∷ []) ≡ spellings toks ++ spelling tok
 spellings_push toks tok = flat_map-append spelling toks (tok ∷ []) ∙ ap (λ s. spellings toks ++ s) (append-nil (spelling tok))
 
-pub tokens_push : (toks : List Tok) (tok : Tok) (place : ℕ) (after : Bool) → AreTokensFrom place after toks → IsTok tok → place_of tok ≡ place + length (spellings toks)
+pub tokens_push : (toks : List Token) (tok : Token) (place : ℕ) (after : Bool) → AreTokensFrom place after toks → IsTok tok → place_of tok ≡ place + length (spellings toks)
     → MayFollow (ends_in_text after toks) (is_text tok) → AreTokensFrom place after (toks ++ tok ∷ [])
 tokens_push [] tok place after h t p m = (t, p ∙ add-zero place, m, tt)
 tokens_push (x ∷ toks) tok place after h t p m =
     let further : place_of tok ≡ (place + length (spelling x)) + length (spellings toks) = p ∙ omega (arith, length-append (spelling x) (spellings toks)) in
     (h.0, h.1, h.2, tokens_push toks tok (place + length (spelling x)) (is_text x) h.3 t further m)
 
-ends_push : (toks : List Tok) (tok : Tok) (after : Bool) → ends_in_text after (toks ++ tok ∷ []) ≡ is_text tok
+ends_push : (toks : List Token) (tok : Token) (after : Bool) → ends_in_text after (toks ++ tok ∷ []) ≡ is_text tok
 ends_push [] tok after = refl
 ends_push (x ∷ toks) tok after = ends_push toks tok (is_text x)
 
@@ -83,23 +83,23 @@ text_follows true e = absurd (true≢false e)
 text_follows false e = tt
 
 -- The bytes of a stream, the tokens that ended, the rest and the mode in it.
-pub record Stands (bytes : List ℕ) (toks : List Tok) (mode : Mode) (rest : List ℕ) : Type 0 where
+pub record Stands (bytes : List ℕ) (toks : List Token) (mode : Mode) (rest : List ℕ) : Type 0 where
   pub whole : bytes ≡ spellings toks ++ rest
   pub tokens : AreTokens toks
   pub mode_is : mode_of rest ≡ Some mode
   pub ended : ends_in_text false toks ≡ true → begins_tag rest ≡ true
 
-pub splits_of : (bytes : List ℕ) (toks : List Tok) (mode : Mode) (rest : List ℕ) → Stands bytes toks mode rest → Splits bytes toks rest
+pub splits_of : (bytes : List ℕ) (toks : List Token) (mode : Mode) (rest : List ℕ) → Stands bytes toks mode rest → Splits bytes toks rest
 splits_of bytes toks mode rest s = record { whole = s.whole; tokens = s.tokens; begun = fits_begun mode rest (mode_fits mode rest s.mode_is); ended = s.ended }
 
-pub stands_of : (bytes : List ℕ) (toks : List Tok) (mode : Mode) (rest : List ℕ) → Splits bytes toks rest → mode_of rest ≡ Some mode → Stands bytes toks mode rest
+pub stands_of : (bytes : List ℕ) (toks : List Token) (mode : Mode) (rest : List ℕ) → Splits bytes toks rest → mode_of rest ≡ Some mode → Stands bytes toks mode rest
 stands_of bytes toks mode rest s e = record { whole = s.whole; tokens = s.tokens; mode_is = e; ended = s.ended }
 
 tag_front_more : (rest : List ℕ) (b : ℕ) → begins_tag rest ≡ true → begins_tag (rest ++ b ∷ []) ≡ true
 tag_front_more [] b h = absurd (none_true h)
 tag_front_more (x ∷ rest) b h = h
 
-pub goes : (bytes : List ℕ) (toks : List Tok) (mode next : Mode) (rest : List ℕ) (b : ℕ) → Stands bytes toks mode rest → turn_of mode rest (rest ++ b ∷ []) b ≡ Goes next
+pub goes : (bytes : List ℕ) (toks : List Token) (mode next : Mode) (rest : List ℕ) (b : ℕ) → Stands bytes toks mode rest → turn_of mode rest (rest ++ b ∷ []) b ≡ Goes next
     → Stands (bytes ++ b ∷ []) toks next (rest ++ b ∷ [])
 goes bytes toks mode next rest b s t = record {
   whole = ap (λ x. x ++ b ∷ []) s.whole ∙ append_assoc (spellings toks) rest (b ∷ []);
@@ -115,7 +115,7 @@ turn_gives mode rest b t e is = subst (IsGoodTurn rest b) is (turn_good mode res
 pub ending : (mode : Mode) (rest : List ℕ) (b from : ℕ) → mode_of rest ≡ Some mode → turn_of mode rest (rest ++ b ∷ []) b ≡ Ends → IsSpelling false (rest ++ b ∷ []) from
 ending mode rest b from e t = turn_gives mode rest b Ends e t from
 
-pub ends : (bytes : List ℕ) (toks : List Tok) (mode : Mode) (rest : List ℕ) (b : ℕ) (tok : Tok) → Stands bytes toks mode rest
+pub ends : (bytes : List ℕ) (toks : List Token) (mode : Mode) (rest : List ℕ) (b : ℕ) (tok : Token) → Stands bytes toks mode rest
     → IsTok tok → rest ++ b ∷ [] ≡ spelling tok → is_text tok ≡ false → place_of tok ≡ length (spellings toks) → Stands (bytes ++ b ∷ []) (toks ++ tok ∷ []) (Text Whole) []
 ends bytes toks mode rest b tok s t is other place = record {
   whole = ap (λ x. x ++ b ∷ []) s.whole ∙ (append_assoc (spellings toks) rest (b ∷ []) ∙ (ap (λ x. spellings toks ++ x) is ∙ (sym (spellings_push toks tok) ∙ sym (append-nil (spellings (toks ++ tok ∷ []))))));
@@ -137,7 +137,7 @@ pub escaped_no_tag : (text more : List ℕ) → begins_tag more ≡ false → be
 escaped_no_tag [] more h = h
 escaped_no_tag (b ∷ text) more h = ap begins_tag (append_assoc (spelling_of b) (escaped text) more) ∙ spelled_no_tag (escaped text ++ more) b
 
-pub text_no_tag : (tok : Tok) (rest : List ℕ) → is_text tok ≡ true → rest ≡ spelling tok → begins_tag rest ≡ false
+pub text_no_tag : (tok : Token) (rest : List ℕ) → is_text tok ≡ true → rest ≡ spelling tok → begins_tag rest ≡ false
 text_no_tag (toks.Start name attributes from) rest t e = absurd (none_true t)
 text_no_tag (toks.End name from) rest t e = absurd (none_true t)
 text_no_tag (toks.Void name attributes from) rest t e = absurd (none_true t)
@@ -145,7 +145,7 @@ text_no_tag (toks.Text text from) rest t e = ap begins_tag (e ∙ sym (append-ni
 text_no_tag (toks.Comment which from) rest t e = absurd (none_true t)
 text_no_tag (toks.Script body from) rest t e = absurd (none_true t)
 
-pub cuts : (bytes : List ℕ) (toks : List Tok) (mode : Mode) (rest : List ℕ) (b : ℕ) (tok : Tok) → Stands bytes toks mode rest
+pub cuts : (bytes : List ℕ) (toks : List Token) (mode : Mode) (rest : List ℕ) (b : ℕ) (tok : Token) → Stands bytes toks mode rest
     → b ≡ 60 → IsTok tok → rest ≡ spelling tok → is_text tok ≡ true → place_of tok ≡ length (spellings toks) → Stands (bytes ++ b ∷ []) (toks ++ tok ∷ []) Name (b ∷ [])
 cuts bytes toks mode rest b tok s is60 t is text place =
     let before : ends_in_text false toks ≡ false = ⊎_elim (λ e. absurd (none_true (sym (text_no_tag tok rest text is) ∙ s.ended e))) (λ f. f) (cases_Bool (ends_in_text false toks)) in
@@ -157,14 +157,14 @@ cuts bytes toks mode rest b tok s is60 t is text place =
     }
 
 -- Another place for a token.
-record IsMoved (place : ℕ) (tok : Tok) : Type 0 where
-  to : Tok
+record IsMoved (place : ℕ) (tok : Token) : Type 0 where
+  to : Token
   is_tok : IsTok tok → IsTok to
   spelled : spelling to ≡ spelling tok
   text : is_text to ≡ is_text tok
   place_is : place_of to ≡ place
 
-move_to : (place : ℕ) (tok : Tok) → IsMoved place tok
+move_to : (place : ℕ) (tok : Token) → IsMoved place tok
 move_to place (toks.Start name attributes from) = record { to = toks.Start name attributes place; is_tok = λ h. h; spelled = refl; text = refl; place_is = refl }
 move_to place (toks.End name from) = record { to = toks.End name place; is_tok = λ h. h; spelled = refl; text = refl; place_is = refl }
 move_to place (toks.Void name attributes from) = record { to = toks.Void name attributes place; is_tok = λ h. h; spelled = refl; text = refl; place_is = refl }
@@ -182,7 +182,7 @@ follows true false n = tt
 follows false text n = tt
 
 -- What splits can go on.
-pub splits_alive : (bytes : List ℕ) (toks : List Tok) (rest : List ℕ) → Splits bytes toks rest → IsAlive bytes
+pub splits_alive : (bytes : List ℕ) (toks : List Token) (rest : List ℕ) → Splits bytes toks rest → IsAlive bytes
 splits_alive bytes toks rest s =
     let none : rest ≡ [] → IsAlive bytes = λ e.
     ([], toks, record { spelled = append-nil bytes ∙ (s.whole ∙ (ap (λ r. spellings toks ++ r) e ∙ append-nil (spellings toks))); tokens = s.tokens }) in
@@ -200,7 +200,7 @@ splits_alive bytes toks rest s =
     ⊎_elim none some s.begun
 
 -- A byte that the reader refuses can never follow.
-pub dead : (bytes : List ℕ) (toks : List Tok) (mode : Mode) (rest : List ℕ) (b : ℕ) (kind : ReadKind) → Stands bytes toks mode rest → turn_of mode rest (rest ++ b ∷ []) b ≡ Fails kind
+pub dead : (bytes : List ℕ) (toks : List Token) (mode : Mode) (rest : List ℕ) (b : ℕ) (kind : ReadKind) → Stands bytes toks mode rest → turn_of mode rest (rest ++ b ∷ []) b ≡ Fails kind
     → ¬ IsAlive (bytes ++ b ∷ [])
 unfolding mode_of
 dead bytes toks mode rest b kind s t a =
@@ -211,7 +211,7 @@ dead bytes toks mode rest b kind s t a =
     let refused : lives mode rest (b ∷ []) ≡ false = ap (λ x. live_on x (λ m. true) true true) t in
     none_true (sym refused ∙ last)
 
-pub first_dead : (bytes : List ℕ) (toks : List Tok) (mode : Mode) (rest : List ℕ) (b : ℕ) (more : List ℕ) (kind : ReadKind) → Stands bytes toks mode rest
+pub first_dead : (bytes : List ℕ) (toks : List Token) (mode : Mode) (rest : List ℕ) (b : ℕ) (more : List ℕ) (kind : ReadKind) → Stands bytes toks mode rest
     → turn_of mode rest (rest ++ b ∷ []) b ≡ Fails kind → IsFirstDead (bytes ++ b ∷ more) (length bytes)
 first_dead bytes toks mode rest b more kind s t =
     let front : take (length bytes) (bytes ++ b ∷ more) ≡ bytes = take_at bytes (b ∷ more) (length bytes) refl in

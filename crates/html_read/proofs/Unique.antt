@@ -7,10 +7,10 @@ use Rattle.std.proofs.lemmas.List.{append_cancel_right, append_cancel_left, take
 use Rattle.fizz_text.specs.declared.attribute.Attr.{Attr}
 use Rattle.html_names.specs.Escape.{spelling_of, escaped}
 use Rattle.html_names.proofs.Escaping.{each_byte, plain_spelling, escaped_injective, spelling_some}
-use Rattle.html_read.specs.declared.token.Said.{Said}
-use Rattle.html_read.specs.declared.token.Said.TheVariants as saids
-use Rattle.html_read.specs.declared.token.Tok.{Tok}
-use Rattle.html_read.specs.declared.token.Tok.TheVariants.{Start, End, Void, Text, Comment, Script}
+use Rattle.html_read.specs.declared.token.CommentKind.{CommentKind}
+use Rattle.html_read.specs.declared.token.CommentKind.TheVariants as saids
+use Rattle.html_read.specs.declared.token.Token.{Token}
+use Rattle.html_read.specs.declared.token.Token.TheVariants.{Start, End, Void, Text, Comment, Script}
 use Rattle.html_read.specs.declared.machine.Mode.{Mode}
 use Rattle.html_read.specs.declared.machine.Mode.TheVariants as modes
 use Rattle.html_read.specs.declared.machine.Turn.{Turn}
@@ -99,14 +99,14 @@ not_ends : codes ">" ≡ codes "/>" → ⊥
 not_ends e = apart_heads 62 47 [] (62 ∷ []) (λ k. omega arith) e
 
 -- what a comment says, by its bytes
-which_of : List ℕ → Said
+which_of : List ℕ → CommentKind
 which_of bytes =
     if bytes_eq bytes (said saids.Complete ++ codes "-->") then saids.Complete else
     if bytes_eq bytes (said saids.Pending ++ codes "-->") then saids.Pending else
     if bytes_eq bytes (said saids.Client ++ codes "-->") then saids.Client else
     if bytes_eq bytes (said saids.End ++ codes "-->") then saids.End else saids.Space
 
-which_is : (which : Said) → which_of (said which ++ codes "-->") ≡ which
+which_is : (which : CommentKind) → which_of (said which ++ codes "-->") ≡ which
 unfolding which_of
 which_is saids.Complete = refl
 which_is saids.Pending = refl
@@ -114,7 +114,7 @@ which_is saids.Client = refl
 which_is saids.End = refl
 which_is saids.Space = refl
 
-which_same : (a b : Said) → said a ++ codes "-->" ≡ said b ++ codes "-->" → a ≡ b
+which_same : (a b : CommentKind) → said a ++ codes "-->" ≡ said b ++ codes "-->" → a ≡ b
 which_same a b e = sym (which_is a) ∙ (ap which_of e ∙ which_is b)
 
 no_less : (bytes : List ℕ) → begins_tag bytes ≡ false → starts_with nat_eq bytes (codes "<") ≡ false
@@ -128,7 +128,7 @@ text_starts text = no_less (escaped text) (ap begins_tag (sym (append-nil (escap
 no_prefix : (bytes needle : List ℕ) → ((more : List ℕ) → bytes ≡ needle ++ more → ⊥) → starts_with nat_eq bytes needle ≡ false
 no_prefix bytes needle n = false_from_ne_true _ (λ h. n (drop (length needle) bytes) (prefix_is bytes needle h))
 
-tag_found : (bytes : List ℕ) (from : ℕ) (found : Option Tok) (name : List ℕ) (attributes : List Attr) (tail : List ℕ) → IsTagName name → EndsTag tail → bytes ≡ tag_front name attributes ++ tail → IsTagOf bytes from found
+tag_found : (bytes : List ℕ) (from : ℕ) (found : Option Token) (name : List ℕ) (attributes : List Attr) (tail : List ℕ) → IsTagName name → EndsTag tail → bytes ≡ tag_front name attributes ++ tail → IsTagOf bytes from found
     → IsTokenOf bytes from found
 tag_found bytes from found name attributes tail t ends e is =
     tag_branch bytes from found (ap (λ x. starts_with nat_eq x (codes "<")) e)
@@ -153,7 +153,7 @@ void_of name attributes from t h = record {
 }
 
 -- A token is the one of its bytes.
-itself : (tok : Tok) → IsTok tok → IsTokenOf (spelling tok) (place_of tok) (Some tok)
+itself : (tok : Token) → IsTok tok → IsTokenOf (spelling tok) (place_of tok) (Some tok)
 itself (Start name attributes from) h = tag_found _ from _ name attributes (codes ">") h.0 start_ends refl (start_of name attributes from h.0 h.1)
 itself (End name from) h = end_branch _ from _ refl (λ other t e. ap (λ n. Some (End n from)) (append_cancel_right name other (codes ">") (append_cancel_left (codes "</") _ _ e)))
 itself (Void name attributes from) h =
@@ -162,10 +162,10 @@ itself (Text text from) h = text_branch _ from _ (text_starts text) (λ other u 
 itself (Comment which from) h = comment_branch _ from _ refl (λ other e. ap (λ w. Some (Comment w from)) (which_same which other (append_cancel_left (codes "<!--") _ _ e)))
 itself (Script body from) h = script_branch _ from _ refl (λ other e. ap (λ b. Some (Script b from)) (append_cancel_right body other script_end (append_cancel_left (codes "<script>") _ _ e)))
 
-some_same : (a b : Tok) → ◌≡◌ {A = Option Tok} (Some a) (Some b) → a ≡ b
+some_same : (a b : Token) → ◌≡◌ {A = Option Token} (Some a) (Some b) → a ≡ b
 some_same a b e = cc
 
-pub token_same : (a b : Tok) → IsTok a → IsTok b → spelling a ≡ spelling b → place_of a ≡ place_of b → a ≡ b
+pub token_same : (a b : Token) → IsTok a → IsTok b → spelling a ≡ spelling b → place_of a ≡ place_of b → a ≡ b
 token_same a b h k e p = sym (some_same b a (itself b k a h (sym e) p))
 
 -- How long a token is that is no text: up to the byte that ends it.
@@ -197,7 +197,7 @@ ends_through mode next seen (b ∷ xs) ys e =
     ] in
     go (turn_at mode seen b) e
 
-tok_len : (tok : Tok) (rest : List ℕ) → IsTok tok → is_text tok ≡ false → length (spelling tok) ≡ ends_len modes.Name (60 ∷ []) (drop 1 (spelling tok ++ rest)) + 1
+tok_len : (tok : Token) (rest : List ℕ) → IsTok tok → is_text tok ≡ false → length (spelling tok) ≡ ends_len modes.Name (60 ∷ []) (drop 1 (spelling tok ++ rest)) + 1
 tok_len tok rest h n =
     let p : Passes (spelling tok) = tok_passes tok h n in
     let split : drop 1 (spelling tok ++ rest) ≡ p.front ++ p.last ∷ rest = ap (λ x. drop 1 (x ++ rest)) p.is ∙ append_assoc p.front (p.last ∷ []) rest in
@@ -231,7 +231,7 @@ run_len xs [] h s = ap (front_len no_tag) (append-nil xs) ∙ all_len xs h
     all_len (y ∷ ys) k = let g : (no_tag y ≡ true) × (list_all no_tag ys ≡ true) = and_parts _ _ k in cond-true (no_tag y) _ 0 g.0 ∙ ap suc (all_len ys g.1)
 run_len xs (b ∷ bs) h s = front_len_at no_tag xs b bs h (ap no_tag s)
 
-text_len : (tok : Tok) (rest : List ℕ) → is_text tok ≡ true → Stops rest → length (spelling tok) ≡ front_len no_tag (spelling tok ++ rest)
+text_len : (tok : Token) (rest : List ℕ) → is_text tok ≡ true → Stops rest → length (spelling tok) ≡ front_len no_tag (spelling tok ++ rest)
 text_len (Start name attributes from) rest t s = absurd (none_true t)
 text_len (End name from) rest t s = absurd (none_true t)
 text_len (Void name attributes from) rest t s = absurd (none_true t)
@@ -243,7 +243,7 @@ not_text : (text : Bool) → MayFollow true text → text ≡ false
 not_text true m = absurd m
 not_text false m = refl
 
-stops_after : (toks : List Tok) (place : ℕ) → AreTokensFrom place true toks → Stops (spellings toks)
+stops_after : (toks : List Token) (place : ℕ) → AreTokensFrom place true toks → Stops (spellings toks)
 stops_after [] place h = tt
 stops_after (tok ∷ toks) place h =
     let p : Passes (spelling tok) = tok_passes tok h.0 (not_text (is_text tok) h.2) in
@@ -252,7 +252,7 @@ stops_after (tok ∷ toks) place h =
 same_front : (xs ys more others : List ℕ) → length xs ≡ length ys → xs ++ more ≡ ys ++ others → xs ≡ ys
 same_front xs ys more others l e = sym (take_at xs more (length xs) refl) ∙ (ap (take (length xs)) e ∙ take_at ys others (length xs) (sym l))
 
-other_begins : (tok : Tok) (more : List ℕ) → IsTok tok → is_text tok ≡ false → begins_tag (spelling tok ++ more) ≡ true
+other_begins : (tok : Token) (more : List ℕ) → IsTok tok → is_text tok ≡ false → begins_tag (spelling tok ++ more) ≡ true
 other_begins tok more h n = let p : Passes (spelling tok) = tok_passes tok h n in ap (λ x. begins_tag (x ++ more)) p.is
 
 nothing_begins : (rest : List ℕ) → Stops rest → (text : List ℕ) → text ≢ [] → begins_tag (escaped text ++ rest) ≡ false
@@ -263,7 +263,7 @@ nothing_begins rest s (b ∷ text) n = ap begins_tag (append_assoc (spelling_of 
     spelled_begins b more = each_byte (λ b. begins_tag (spelling_of b ++ more) ≡ false) refl refl refl refl refl
         (λ b n34 n38 n39 n60 n62. ap (λ x. begins_tag (x ++ more)) (plain_spelling b n34 n38 n39 n60 n62) ∙ ne_eqb b 60 n60) b
 
-text_begins : (tok : Tok) (rest : List ℕ) → IsTok tok → is_text tok ≡ true → Stops rest → begins_tag (spelling tok ++ rest) ≡ false
+text_begins : (tok : Token) (rest : List ℕ) → IsTok tok → is_text tok ≡ true → Stops rest → begins_tag (spelling tok ++ rest) ≡ false
 text_begins (Start name attributes from) rest h t s = absurd (none_true t)
 text_begins (End name from) rest h t s = absurd (none_true t)
 text_begins (Void name attributes from) rest h t s = absurd (none_true t)
@@ -272,7 +272,7 @@ text_begins (Comment which from) rest h t s = absurd (none_true t)
 text_begins (Script body from) rest h t s = absurd (none_true t)
 
 -- Of two tokens at the front of the same bytes, neither a text that goes on, the bytes are the same.
-first_same : (a b : Tok) (xs ys : List ℕ) → IsTok a → IsTok b → (is_text a ≡ true → Stops xs) → (is_text b ≡ true → Stops ys) → spelling a ++ xs ≡ spelling b ++ ys → spelling a ≡ spelling b
+first_same : (a b : Token) (xs ys : List ℕ) → IsTok a → IsTok b → (is_text a ≡ true → Stops xs) → (is_text b ≡ true → Stops ys) → spelling a ++ xs ≡ spelling b ++ ys → spelling a ≡ spelling b
 first_same a b xs ys h k stop halt e =
     let tt_case : is_text a ≡ true → is_text b ≡ true → spelling a ≡ spelling b = λ s t.
     same_front (spelling a) (spelling b) xs ys (text_len a xs s (stop s) ∙ (ap (front_len no_tag) e ∙ sym (text_len b ys t (halt t)))) e in
@@ -284,7 +284,7 @@ first_same a b xs ys h k stop halt e =
     same_front (spelling a) (spelling b) xs ys (tok_len a xs h s ∙ (ap (λ x. ends_len modes.Name (60 ∷ []) (drop 1 x) + 1) e ∙ sym (tok_len b ys k t))) e in
     ⊎_elim (λ s. ⊎_elim (tt_case s) (tf_case s) (cases_Bool (is_text b))) (λ s. ⊎_elim (ft_case s) (ff_case s) (cases_Bool (is_text b))) (cases_Bool (is_text a))
 
-some_bytes : (tok : Tok) → IsTok tok → 0 < length (spelling tok)
+some_bytes : (tok : Token) → IsTok tok → 0 < length (spelling tok)
 some_bytes (Start name attributes from) h = omega (arith, length-append (tag_front name attributes) (codes ">"))
 some_bytes (End name from) h = omega arith
 some_bytes (Void name attributes from) h = omega (arith, length-append (tag_front name attributes) (codes "/>"))
@@ -296,10 +296,10 @@ some_bytes (Text text from) h = text_bytes text h.0
 some_bytes (Comment which from) h = omega arith
 some_bytes (Script body from) h = omega arith
 
-nothing_left : (tok : Tok) (toks : List Tok) → IsTok tok → [] ≡ spellings (tok ∷ toks) → ⊥
+nothing_left : (tok : Token) (toks : List Token) → IsTok tok → [] ≡ spellings (tok ∷ toks) → ⊥
 nothing_left tok toks h e = let n : 0 ≡ length (spelling tok ++ spellings toks) = ap length e in omega (arith, some_bytes tok h, length-append (spelling tok) (spellings toks))
 
-same_lists : (xs ys : List Tok) (place : ℕ) (after : Bool) → AreTokensFrom place after xs → AreTokensFrom place after ys → spellings xs ≡ spellings ys → xs ≡ ys
+same_lists : (xs ys : List Token) (place : ℕ) (after : Bool) → AreTokensFrom place after xs → AreTokensFrom place after ys → spellings xs ≡ spellings ys → xs ≡ ys
 same_lists [] [] place after h k e = refl
 same_lists [] (b ∷ ys) place after h k e = absurd (nothing_left b ys k.0 e)
 same_lists (a ∷ xs) [] place after h k e = absurd (nothing_left a xs h.0 (sym e))
@@ -313,7 +313,7 @@ same_lists (a ∷ xs) (b ∷ ys) place after h k e =
     (λ i. first i ∷ same_lists xs ys (place + length (spelling a)) (is_text a) h.3 later rest i)
 
 -- Two readings of one stream are one.
-pub one_list : (bytes : List ℕ) (a b : List Tok) → Tokenizes bytes a → Tokenizes bytes b → a ≡ b
+pub one_list : (bytes : List ℕ) (a b : List Token) → Tokenizes bytes a → Tokenizes bytes b → a ≡ b
 one_list bytes a b s t = same_lists a b 0 false s.tokens t.tokens (sym s.spelled ∙ t.spelled)
 
 tag_stops : (bytes : List ℕ) → begins_tag bytes ≡ true → Stops bytes
@@ -325,14 +325,14 @@ tag_on [] more h = absurd (none_true h)
 tag_on (b ∷ bs) more h = h
 
 -- What follows a text begins with `<`.
-tag_follows : (toks : List Tok) (place : ℕ) (text : Bool) (more : List ℕ) → AreTokensFrom place text toks → (ends_in_text text toks ≡ true → begins_tag more ≡ true) → text ≡ true
+tag_follows : (toks : List Token) (place : ℕ) (text : Bool) (more : List ℕ) → AreTokensFrom place text toks → (ends_in_text text toks ≡ true → begins_tag more ≡ true) → text ≡ true
     → begins_tag (spellings toks ++ more) ≡ true
 tag_follows [] place text more h e t = e t
 tag_follows (tok ∷ toks) place text more h e t =
     ap begins_tag (append_assoc (spelling tok) (spellings toks) more) ∙ other_begins tok (spellings toks ++ more) h.0 (not_text (is_text tok) (subst (λ x. MayFollow x (is_text tok)) t h.2))
 
 -- A whole token does not stand in one that has not ended.
-not_begun : (a tok : Tok) (xs more : List ℕ) → IsTok a → IsTok tok → (is_text a ≡ true → begins_tag xs ≡ true) → (is_text tok ≡ true) ⊎ (more ≢ []) → (spelling a ++ xs) ++ more ≡ spelling tok → ⊥
+not_begun : (a tok : Token) (xs more : List ℕ) → IsTok a → IsTok tok → (is_text a ≡ true → begins_tag xs ≡ true) → (is_text tok ≡ true) ⊎ (more ≢ []) → (spelling a ++ xs) ++ more ≡ spelling tok → ⊥
 not_begun a tok xs more h k follows ending e =
     let split : spelling a ++ (xs ++ more) ≡ spelling tok ++ [] = sym (append_assoc (spelling a) xs more) ∙ (e ∙ sym (append-nil (spelling tok))) in
     let same : spelling a ≡ spelling tok = first_same a tok (xs ++ more) [] h k (λ t. tag_stops (xs ++ more) (tag_on xs more (follows t))) (λ t. tt) split in
@@ -352,11 +352,11 @@ not_begun a tok xs more h k follows ending e =
         no_nil y ys e = cc
 
 -- Tokens, and those after them.
-pub record Further (front toks : List Tok) : Type 0 where
-  pub more : List Tok
+pub record Further (front toks : List Token) : Type 0 where
+  pub more : List Token
   pub are : toks ≡ front ++ more
 
-front_from : (front toks : List Tok) (place : ℕ) (after : Bool) (more rest : List ℕ) → AreTokensFrom place after front → AreTokensFrom place after toks → spellings front ++ more ≡ spellings toks ++ rest
+front_from : (front toks : List Token) (place : ℕ) (after : Bool) (more rest : List ℕ) → AreTokensFrom place after front → AreTokensFrom place after toks → spellings front ++ more ≡ spellings toks ++ rest
     → (ends_in_text after front ≡ true → begins_tag more ≡ true) → (ends_in_text after toks ≡ true → begins_tag rest ≡ true) → (rest ≡ []) ⊎ IsBegun rest → Further front toks
 front_from [] toks place after more rest h k e f g begun = record { more = toks; are = refl }
 front_from (a ∷ xs) [] place after more rest h k e f g begun =
@@ -365,7 +365,7 @@ front_from (a ∷ xs) [] place after more rest h k e f g begun =
     (λ none. absurd (nothing_here a (spellings xs ++ more) h.0 (split ∙ none)))
     (λ begun. absurd (not_begun a begun.1 (spellings xs ++ more) begun.0 h.0 begun.2 (tag_follows xs (place + length (spelling a)) (is_text a) more h.3 f) begun.4 (ap (λ x. x ++ begun.0) split ∙ begun.3))) begun
   where
-    nothing_here : (tok : Tok) (xs : List ℕ) → IsTok tok → spelling tok ++ xs ≡ [] → ⊥
+    nothing_here : (tok : Token) (xs : List ℕ) → IsTok tok → spelling tok ++ xs ≡ [] → ⊥
     nothing_here tok xs h e = let n : length (spelling tok ++ xs) ≡ 0 = ap length e in omega (arith, some_bytes tok h, length-append (spelling tok) xs)
 front_from (a ∷ xs) (b ∷ ys) place after more rest h k e f g begun =
     let split : spelling a ++ (spellings xs ++ more) ≡ spelling b ++ (spellings ys ++ rest) =
@@ -380,19 +380,19 @@ front_from (a ∷ xs) (b ∷ ys) place after more rest h k e f g begun =
     record { more = others.more; are = (λ i. sym first i ∷ others.are i) }
 
 -- Whatever tokens spell a front of the bytes are the first of them.
-pub front_list : (bytes : List ℕ) (front toks : List Tok) (more rest : List ℕ) → AreTokens front → bytes ≡ spellings front ++ more → (ends_in_text false front ≡ true → begins_tag more ≡ true) → Splits bytes toks rest
-    → (further : List Tok) × (toks ≡ front ++ further)
+pub front_list : (bytes : List ℕ) (front toks : List Token) (more rest : List ℕ) → AreTokens front → bytes ≡ spellings front ++ more → (ends_in_text false front ≡ true → begins_tag more ≡ true) → Splits bytes toks rest
+    → (further : List Token) × (toks ≡ front ++ further)
 front_list bytes front toks more rest h e f s =
     let others : Further front toks = front_from front toks 0 false more rest h s.tokens (sym e ∙ s.whole) f s.ended s.begun in
     (others.more, others.are)
 
-both_ways : (a b : List Tok) → Further a b → Further b a → a ≡ b
+both_ways : (a b : List Token) → Further a b → Further b a → a ≡ b
 both_ways a b f g =
     let none : f.more ≡ [] = nil_from_length f.more (omega (arith, ap length f.are, ap length g.are, length-append a f.more, length-append b g.more)) in
     sym (f.are ∙ (ap (λ x. a ++ x) none ∙ append-nil a))
 
 -- What has been read splits in one way.
-pub one_split : (bytes : List ℕ) (a b : List Tok) (r s : List ℕ) → Splits bytes a r → Splits bytes b s → (a ≡ b) × (r ≡ s)
+pub one_split : (bytes : List ℕ) (a b : List Token) (r s : List ℕ) → Splits bytes a r → Splits bytes b s → (a ≡ b) × (r ≡ s)
 one_split bytes a b r s p q =
     let f : Further a b = front_from a b 0 false r s p.tokens q.tokens (sym p.whole ∙ q.whole) p.ended q.ended q.begun in
     let g : Further b a = front_from b a 0 false s r q.tokens p.tokens (sym q.whole ∙ p.whole) q.ended p.ended p.begun in

@@ -2,7 +2,7 @@
 use Rattle.std.proofs.Common.{◌≡◌, ℕ, ◌+◌, ◌-◌, ◌<◌, ◌≤◌, true, false, Option, Some, None, Result, Ok, Err, List, [], ◌∷◌, ◌++◌, length, drop, take, refl, sym, ◌∙◌, ap, subst, arith, append-nil, append_assoc, length-append}
 use Rattle.std.specs.Prelude.{slice_range, slice_index, option_to_list}
 use Rattle.std.proofs.lemmas.List.{take_at, drop_at, take_all, drop_all, take_more, drop_more, drop-take, drop-append-le, length-take-le, length-drop, take-append-drop, get_or_at}
-use Rattle.html_read.specs.declared.token.Tok.{Tok}
+use Rattle.html_read.specs.declared.token.Token.{Token}
 use Rattle.html_read.specs.declared.fault.ReadKind.{ReadKind}
 use Rattle.html_read.specs.declared.place.Place.TheVariants.{Whole}
 use Rattle.html_read.specs.declared.machine.Mode.{Mode}
@@ -20,11 +20,11 @@ use Rattle.html_read.proofs.FaultKinds.{fails_kind}
 use Rattle.html_read.proofs.Standing.{Stands, stands_of, splits_of, mode_fits, mode_starts, mode_tag, mode_more, goes, ending, ends, cutting, cuts, first_dead, spellings_push}
 
 -- Whatever tokens were given before the bytes.
-abbrev pub StandsAfter : List ℕ → ℕ → Mode → ℕ → List Tok → ℕ → Mode → ℕ → Type 0
-StandsAfter bytes start mode place tokens from now i = (toks : List Tok) → Splits (spellings toks ++ take start bytes) toks (take start bytes) → length (spellings toks) ≡ place
+abbrev pub StandsAfter : List ℕ → ℕ → Mode → ℕ → List Token → ℕ → Mode → ℕ → Type 0
+StandsAfter bytes start mode place tokens from now i = (toks : List Token) → Splits (spellings toks ++ take start bytes) toks (take start bytes) → length (spellings toks) ≡ place
     → Stands (spellings toks ++ take i bytes) (toks ++ tokens) now (drop from (take i bytes)) × (length (spellings (toks ++ tokens)) ≡ place + from)
 
-pub record Walks (bytes : List ℕ) (start : ℕ) (mode : Mode) (place : ℕ) (tokens : List Tok) (from : ℕ) (now : Mode) (i : ℕ) : Type 0 where
+pub record Walks (bytes : List ℕ) (start : ℕ) (mode : Mode) (place : ℕ) (tokens : List Token) (from : ℕ) (now : Mode) (i : ℕ) : Type 0 where
   pub begun : from ≤ i
   pub mode_is : mode_of (take start bytes) ≡ Some mode → mode_of (drop from (take i bytes)) ≡ Some now
   pub stands : mode_of (take start bytes) ≡ Some mode → StandsAfter bytes start mode place tokens from now i
@@ -51,17 +51,17 @@ more_is bytes from i l m =
 pub token_is : (bytes : List ℕ) (from i : ℕ) → from ≤ i → i < length bytes → slice_range bytes from (i + 1) ≡ drop from (take i bytes) ++ slice_index bytes i ∷ []
 token_is bytes from i l m = seen_is bytes from (i + 1) (omega arith) ∙ more_is bytes from i l m
 
-whole_more : (toks : List Tok) (bytes : List ℕ) (i : ℕ) → i < length bytes → (spellings toks ++ take i bytes) ++ slice_index bytes i ∷ [] ≡ spellings toks ++ take (i + 1) bytes
+whole_more : (toks : List Token) (bytes : List ℕ) (i : ℕ) → i < length bytes → (spellings toks ++ take i bytes) ++ slice_index bytes i ∷ [] ≡ spellings toks ++ take (i + 1) bytes
 whole_more toks bytes i m = append_assoc (spellings toks) (take i bytes) (slice_index bytes i ∷ []) ∙ ap (λ x. spellings toks ++ x) (sym (take_more bytes i 0 m))
 
 -- What a step does.
-abbrev StepGives : List ℕ → ℕ → Mode → ℕ → List Tok → ℕ → Mode → ℕ → Result At ReadKind → Type 0
+abbrev StepGives : List ℕ → ℕ → Mode → ℕ → List Token → ℕ → Mode → ℕ → Result At ReadKind → Type 0
 StepGives bytes start mode place tokens from now i (Ok next) = Walks bytes start mode place tokens next.from next.mode (i + 1)
 StepGives bytes start mode place tokens from now i (Err kind) =
-    mode_of (take start bytes) ≡ Some mode → (toks : List Tok) → Splits (spellings toks ++ take start bytes) toks (take start bytes) → length (spellings toks) ≡ place
+    mode_of (take start bytes) ≡ Some mode → (toks : List Token) → Splits (spellings toks ++ take start bytes) toks (take start bytes) → length (spellings toks) ≡ place
     → HasFault (spellings toks ++ bytes) (toks ++ tokens) (place + i) kind
 
-goes_step : (bytes : List ℕ) (start : ℕ) (mode : Mode) (place : ℕ) (tokens : List Tok) (from : ℕ) (now next : Mode) (i : ℕ) → Walks bytes start mode place tokens from now i → i < length bytes
+goes_step : (bytes : List ℕ) (start : ℕ) (mode : Mode) (place : ℕ) (tokens : List Token) (from : ℕ) (now next : Mode) (i : ℕ) → Walks bytes start mode place tokens from now i → i < length bytes
     → turn_of now (drop from (take i bytes)) (drop from (take i bytes) ++ slice_index bytes i ∷ []) (slice_index bytes i) ≡ Goes next → Walks bytes start mode place tokens from next (i + 1)
 goes_step bytes start mode place tokens from now next i w m t =
     let rest : List ℕ = drop from (take i bytes) in
@@ -79,14 +79,14 @@ goes_step bytes start mode place tokens from now next i w m t =
           );
     }
 
-one_more : (tokens : List Tok) (tok : Tok) (found : Option Tok) → found ≡ Some tok → tokens ++ option_to_list found ≡ tokens ++ tok ∷ []
+one_more : (tokens : List Token) (tok : Token) (found : Option Token) → found ≡ Some tok → tokens ++ option_to_list found ≡ tokens ++ tok ∷ []
 one_more tokens tok found e = ap (λ o. tokens ++ option_to_list o) e
 
-pushed_length : (toks tokens : List Tok) (tok : Tok) (n m : ℕ) (bytes : List ℕ) → length (spellings (toks ++ tokens)) ≡ n → bytes ≡ spelling tok → length bytes ≡ m → length (spellings (toks ++ (tokens ++ tok ∷ []))) ≡ n + m
+pushed_length : (toks tokens : List Token) (tok : Token) (n m : ℕ) (bytes : List ℕ) → length (spellings (toks ++ tokens)) ≡ n → bytes ≡ spelling tok → length bytes ≡ m → length (spellings (toks ++ (tokens ++ tok ∷ []))) ≡ n + m
 pushed_length toks tokens tok n m bytes e is l =
     ap (λ t. length (spellings t)) (sym (append_assoc toks tokens (tok ∷ []))) ∙ (ap length (spellings_push (toks ++ tokens) tok) ∙ omega (arith, length-append (spellings (toks ++ tokens)) (spelling tok), ap length is))
 
-ends_step : (bytes : List ℕ) (start : ℕ) (mode : Mode) (place : ℕ) (tokens : List Tok) (from : ℕ) (now : Mode) (i : ℕ) (found : Option Tok) → Walks bytes start mode place tokens from now i → i < length bytes
+ends_step : (bytes : List ℕ) (start : ℕ) (mode : Mode) (place : ℕ) (tokens : List Token) (from : ℕ) (now : Mode) (i : ℕ) (found : Option Token) → Walks bytes start mode place tokens from now i → i < length bytes
     → turn_of now (drop from (take i bytes)) (drop from (take i bytes) ++ slice_index bytes i ∷ []) (slice_index bytes i) ≡ Ends
     → IsTokenOf (drop from (take i bytes) ++ slice_index bytes i ∷ []) (place + from) found → Walks bytes start mode place (tokens ++ option_to_list found) (i + 1) (Text Whole) (i + 1)
 ends_step bytes start mode place tokens from now i found w m t is =
@@ -112,7 +112,7 @@ ends_step bytes start mode place tokens from now i found w m t is =
           );
     }
 
-cuts_step : (bytes : List ℕ) (start : ℕ) (mode : Mode) (place : ℕ) (tokens : List Tok) (from : ℕ) (now : Mode) (i : ℕ) (found : Option Tok) → Walks bytes start mode place tokens from now i → i < length bytes
+cuts_step : (bytes : List ℕ) (start : ℕ) (mode : Mode) (place : ℕ) (tokens : List Token) (from : ℕ) (now : Mode) (i : ℕ) (found : Option Token) → Walks bytes start mode place tokens from now i → i < length bytes
     → turn_of now (drop from (take i bytes)) (drop from (take i bytes) ++ slice_index bytes i ∷ []) (slice_index bytes i) ≡ Cuts
     → IsTokenOf (drop from (take i bytes)) (place + from) found → Walks bytes start mode place (tokens ++ option_to_list found) i Name (i + 1)
 cuts_step bytes start mode place tokens from now i found w m t is =
@@ -140,7 +140,7 @@ cuts_step bytes start mode place tokens from now i found w m t is =
           );
     }
 
-fails_step : (bytes : List ℕ) (start : ℕ) (mode : Mode) (place : ℕ) (tokens : List Tok) (from : ℕ) (now : Mode) (i : ℕ) (kind : ReadKind) → Walks bytes start mode place tokens from now i → i < length bytes
+fails_step : (bytes : List ℕ) (start : ℕ) (mode : Mode) (place : ℕ) (tokens : List Token) (from : ℕ) (now : Mode) (i : ℕ) (kind : ReadKind) → Walks bytes start mode place tokens from now i → i < length bytes
     → turn_of now (drop from (take i bytes)) (drop from (take i bytes) ++ slice_index bytes i ∷ []) (slice_index bytes i) ≡ Fails kind → StepGives bytes start mode place tokens from now i (Err kind)
 fails_step bytes start mode place tokens from now i kind w m t e toks s l =
     let rest : List ℕ = drop from (take i bytes) in
@@ -159,7 +159,7 @@ fails_step bytes start mode place tokens from now i kind w m t e toks s l =
       kind_is = subst (λ x. HasKind rest x kind) (sym (get_or_at front b more 0 (length front) refl)) (fails_kind now rest b kind (mode_fits now rest (w.mode_is e)) t);
     }))
 
-step_by : (bytes : List ℕ) (start : ℕ) (mode : Mode) (place : ℕ) (tokens new : List Tok) (at : At) (i : ℕ) (result : Result At ReadKind) (t : Turn) → Walks bytes start mode place tokens at.from at.mode i → i < length bytes
+step_by : (bytes : List ℕ) (start : ℕ) (mode : Mode) (place : ℕ) (tokens new : List Token) (at : At) (i : ℕ) (result : Result At ReadKind) (t : Turn) → Walks bytes start mode place tokens at.from at.mode i → i < length bytes
     → turn_of at.mode (drop at.from (take i bytes)) (drop at.from (take i bytes) ++ slice_index bytes i ∷ []) (slice_index bytes i) ≡ t → IsStepBy t tokens bytes at i place new result
     → StepGives bytes start mode place new at.from at.mode i result
 step_by bytes start mode place tokens new at i result (Goes next) w m t h =
@@ -174,7 +174,7 @@ step_by bytes start mode place tokens new at i result (Fails kind) w m t h =
     subst (StepGives bytes start mode place new at.from at.mode i) (sym h.1) (λ e toks s l.
     subst (λ x. HasFault (spellings toks ++ bytes) (toks ++ x) (place + i) kind) (sym h.0) (fails_step bytes start mode place tokens at.from at.mode i kind w m t e toks s l))
 
-step_gives : (bytes : List ℕ) (start : ℕ) (mode : Mode) (place : ℕ) (tokens new : List Tok) (at : At) (i : ℕ) (result : Result At ReadKind) → Walks bytes start mode place tokens at.from at.mode i → i < length bytes
+step_gives : (bytes : List ℕ) (start : ℕ) (mode : Mode) (place : ℕ) (tokens new : List Token) (at : At) (i : ℕ) (result : Result At ReadKind) → Walks bytes start mode place tokens at.from at.mode i → i < length bytes
     → IsStep tokens bytes at i place new result → StepGives bytes start mode place new at.from at.mode i result
 step_gives bytes start mode place tokens new at i result w m h =
     let rest : List ℕ = drop at.from (take i bytes) in
@@ -182,23 +182,23 @@ step_gives bytes start mode place tokens new at i result w m h =
     (λ k. turn_of at.mode (seen_is bytes at.from i w.begun k) (token_is bytes at.from i w.begun m k) (slice_index bytes i)) in
     step_by bytes start mode place tokens new at i result _ w m (sym same) h
 
-pub walk_on : (bytes : List ℕ) (start : ℕ) (mode : Mode) (place : ℕ) (tokens new : List Tok) (at next : At) (i : ℕ) (result : Result At ReadKind) → Walks bytes start mode place tokens at.from at.mode i → i < length bytes
+pub walk_on : (bytes : List ℕ) (start : ℕ) (mode : Mode) (place : ℕ) (tokens new : List Token) (at next : At) (i : ℕ) (result : Result At ReadKind) → Walks bytes start mode place tokens at.from at.mode i → i < length bytes
     → IsStep tokens bytes at i place new result → result ≡ Ok next → Walks bytes start mode place new next.from next.mode (i + 1)
 walk_on bytes start mode place tokens new at next i result w m h e =
     subst (StepGives bytes start mode place new at.from at.mode i) e (step_gives bytes start mode place tokens new at i result w m h)
 
-pub walk_fails : (bytes : List ℕ) (start : ℕ) (mode : Mode) (place : ℕ) (tokens new : List Tok) (at : At) (kind : ReadKind) (i : ℕ) (result : Result At ReadKind) → Walks bytes start mode place tokens at.from at.mode i → i < length bytes
-    → IsStep tokens bytes at i place new result → result ≡ Err kind → mode_of (take start bytes) ≡ Some mode → (toks : List Tok) → Splits (spellings toks ++ take start bytes) toks (take start bytes) → length (spellings toks) ≡ place
+pub walk_fails : (bytes : List ℕ) (start : ℕ) (mode : Mode) (place : ℕ) (tokens new : List Token) (at : At) (kind : ReadKind) (i : ℕ) (result : Result At ReadKind) → Walks bytes start mode place tokens at.from at.mode i → i < length bytes
+    → IsStep tokens bytes at i place new result → result ≡ Err kind → mode_of (take start bytes) ≡ Some mode → (toks : List Token) → Splits (spellings toks ++ take start bytes) toks (take start bytes) → length (spellings toks) ≡ place
     → HasFault (spellings toks ++ bytes) (toks ++ new) (place + i) kind
 walk_fails bytes start mode place tokens new at kind i result w m h e =
     subst (StepGives bytes start mode place new at.from at.mode i) e (step_gives bytes start mode place tokens new at i result w m h)
 
-pub walk_mode : (bytes : List ℕ) (start : ℕ) (mode : Mode) (place : ℕ) (tokens : List Tok) (from : ℕ) (now : Mode) (i : ℕ) → Walks bytes start mode place tokens from now i → length bytes ≤ i
+pub walk_mode : (bytes : List ℕ) (start : ℕ) (mode : Mode) (place : ℕ) (tokens : List Token) (from : ℕ) (now : Mode) (i : ℕ) → Walks bytes start mode place tokens from now i → length bytes ≤ i
     → mode_of (take start bytes) ≡ Some mode → mode_of (drop from bytes) ≡ Some now
 walk_mode bytes start mode place tokens from now i w l e = subst (λ x. mode_of (drop from x) ≡ Some now) (take_all i bytes l) (w.mode_is e)
 
-pub walk_ends : (bytes : List ℕ) (start : ℕ) (mode : Mode) (place : ℕ) (tokens : List Tok) (from : ℕ) (now : Mode) (i : ℕ) → Walks bytes start mode place tokens from now i → length bytes ≤ i
-    → mode_of (take start bytes) ≡ Some mode → (toks : List Tok) → Splits (spellings toks ++ take start bytes) toks (take start bytes) → length (spellings toks) ≡ place → Finds toks bytes place tokens from None
+pub walk_ends : (bytes : List ℕ) (start : ℕ) (mode : Mode) (place : ℕ) (tokens : List Token) (from : ℕ) (now : Mode) (i : ℕ) → Walks bytes start mode place tokens from now i → length bytes ≤ i
+    → mode_of (take start bytes) ≡ Some mode → (toks : List Token) → Splits (spellings toks ++ take start bytes) toks (take start bytes) → length (spellings toks) ≡ place → Finds toks bytes place tokens from None
 walk_ends bytes start mode place tokens from now i w l e toks s p =
     let h : Stands (spellings toks ++ take i bytes) (toks ++ tokens) now (drop from (take i bytes)) × (length (spellings (toks ++ tokens)) ≡ place + from) = w.stands e toks s p in
     (subst (λ x. Splits (spellings toks ++ x) (toks ++ tokens) (drop from x)) (take_all i bytes l) (splits_of (spellings toks ++ take i bytes) (toks ++ tokens) now (drop from (take i bytes)) h.0), h.1)

@@ -3,9 +3,9 @@ use Rattle.std.specs.Prelude.{◌≡◌, ◌≢◌, ℕ, suc, Bool, false, if◌
 use Rattle.std.specs.Str.{IsUtf8}
 use Rattle.fizz_text.specs.declared.attribute.Attr.{Attr}
 use Rattle.html_names.specs.Escape.{escaped}
-use Rattle.html_read.specs.declared.token.Tok.{Tok}
-use Rattle.html_read.specs.declared.token.Said.{Said}
-use Rattle.html_read.specs.declared.token.Tok.TheVariants.{Start, End, Void, Text, Comment, Script}
+use Rattle.html_read.specs.declared.token.Token.{Token}
+use Rattle.html_read.specs.declared.token.CommentKind.{CommentKind}
+use Rattle.html_read.specs.declared.token.Token.TheVariants.{Start, End, Void, Text, Comment, Script}
 use Rattle.html_read.specs.Names.{continues_attribute_name, IsTagName}
 use Rattle.html_names.specs.Printing.{written_attribute, written_attributes}
 use Rattle.html_read.specs.Tokens.{spelling, place_of, IsTok, IsAttribute, AreAttributes}
@@ -16,8 +16,8 @@ front_len test [] = 0
 front_len test (b ∷ bs) = if test b then suc (front_len test bs) else 0
 
 -- Whatever token has these bytes and this place is the one found.
-abbrev pub IsTokenOf : List ℕ → ℕ → Option Tok → Type 0
-IsTokenOf bytes from found = (tok : Tok) → IsTok tok → bytes ≡ spelling tok → place_of tok ≡ from → found ≡ Some tok
+abbrev pub IsTokenOf : List ℕ → ℕ → Option Token → Type 0
+IsTokenOf bytes from found = (tok : Token) → IsTok tok → bytes ≡ spelling tok → place_of tok ≡ from → found ≡ Some tok
 
 -- Whatever text is escaped so is the one found.
 abbrev pub IsTextOf : List ℕ → Option (List ℕ) → Type 0
@@ -43,22 +43,22 @@ AreAttributesOf bytes found len = (attributes : List Attr) (more : List ℕ) →
     → bytes ≡ written_attributes attributes ++ more → (found ≡ attributes) × (len ≡ length (written_attributes attributes))
 
 -- The same for each kind of token alone.
-abbrev pub IsTextTokenOf : List ℕ → ℕ → Option Tok → Type 0
+abbrev pub IsTextTokenOf : List ℕ → ℕ → Option Token → Type 0
 IsTextTokenOf bytes from found = (text : List ℕ) → IsUtf8 text → bytes ≡ spelling (Text text from) → found ≡ Some (Text text from)
 
-abbrev pub IsEndOf : List ℕ → ℕ → Option Tok → Type 0
+abbrev pub IsEndOf : List ℕ → ℕ → Option Token → Type 0
 IsEndOf bytes from found = (name : List ℕ) → IsTagName name → bytes ≡ spelling (End name from) → found ≡ Some (End name from)
 
-abbrev pub IsSaidOf : List ℕ → Option Said → Type 0
-IsSaidOf bytes found = (which : Said) → bytes ≡ spelling (Comment which 0) → found ≡ Some which
+abbrev pub IsCommentKindOf : List ℕ → Option CommentKind → Type 0
+IsCommentKindOf bytes found = (which : CommentKind) → bytes ≡ spelling (Comment which 0) → found ≡ Some which
 
-abbrev pub IsCommentOf : List ℕ → ℕ → Option Tok → Type 0
-IsCommentOf bytes from found = (which : Said) → bytes ≡ spelling (Comment which from) → found ≡ Some (Comment which from)
+abbrev pub IsCommentOf : List ℕ → ℕ → Option Token → Type 0
+IsCommentOf bytes from found = (which : CommentKind) → bytes ≡ spelling (Comment which from) → found ≡ Some (Comment which from)
 
-abbrev pub IsScriptOf : List ℕ → ℕ → Option Tok → Type 0
+abbrev pub IsScriptOf : List ℕ → ℕ → Option Token → Type 0
 IsScriptOf bytes from found = (body : List ℕ) → bytes ≡ spelling (Script body from) → found ≡ Some (Script body from)
 
-pub record IsTagOf (bytes : List ℕ) (from : ℕ) (found : Option Tok) : Type 0 where
+pub record IsTagOf (bytes : List ℕ) (from : ℕ) (found : Option Token) : Type 0 where
   pub start : (name : List ℕ) (attributes : List Attr) → IsTagName name → AreAttributes attributes
       → bytes ≡ spelling (Start name attributes from) → found ≡ Some (Start name attributes from)
   pub void : (name : List ℕ) (attributes : List Attr) → IsTagName name → AreAttributes attributes

@@ -4,7 +4,7 @@ use Rattle.std.specs.List.{list_all}
 use Rattle.std.specs.Str.{IsUtf8}
 use Rattle.fizz_text.specs.declared.attribute.Attr.{Attr}
 use Rattle.html_names.specs.Escape.{escaped, is_open_entity}
-use Rattle.html_read.specs.declared.token.Tok.{Tok}
+use Rattle.html_read.specs.declared.token.Token.{Token}
 use Rattle.html_read.specs.declared.fault.ReadKind.{ReadKind}
 use Rattle.html_read.specs.declared.fault.ReadKind.TheVariants.{Name, Attribute, Entity, Comment, Text, Utf8}
 use Rattle.html_read.specs.Names.{is_letter, is_digit, IsTagName, IsAttributeName}
@@ -13,7 +13,7 @@ use Rattle.html_read.specs.Tokens.{AreAttributes, spelling, spellings, is_text, 
 
 -- The bytes can go on so that they are tokens.
 abbrev pub IsAlive : List ℕ → Type 0
-IsAlive front = (more : List ℕ) × (toks : List Tok) × Tokenizes (front ++ more) toks
+IsAlive front = (more : List ℕ) × (toks : List Token) × Tokenizes (front ++ more) toks
 
 -- The place of the first byte with which the bytes cannot go on.
 pub record IsFirstDead (bytes : List ℕ) (at : ℕ) : Type 0 where
@@ -23,7 +23,7 @@ pub record IsFirstDead (bytes : List ℕ) (at : ℕ) : Type 0 where
 
 -- A token that has begun and not ended: a text, which may always go on, or another token of which bytes are to come.
 abbrev pub IsBegun : List ℕ → Type 0
-IsBegun rest = (more : List ℕ) × (tok : Tok) × IsTok tok × (rest ++ more ≡ spelling tok) × ((is_text tok ≡ true) ⊎ (more ≢ []))
+IsBegun rest = (more : List ℕ) × (tok : Token) × IsTok tok × (rest ++ more ≡ spelling tok) × ((is_text tok ≡ true) ⊎ (more ≢ []))
 
 -- A tag, a comment or a script has begun.
 abbrev pub begins_tag : List ℕ → Bool
@@ -31,12 +31,12 @@ begins_tag [] = false
 begins_tag (b ∷ bs) = b == 60
 
 -- whether the last token is a text, of tokens that follow a text or not
-abbrev pub ends_in_text : Bool → List Tok → Bool
+abbrev pub ends_in_text : Bool → List Token → Bool
 ends_in_text after_text [] = after_text
 ends_in_text after_text (tok ∷ toks) = ends_in_text (is_text tok) toks
 
 -- Of the bytes so far, these tokens have ended and the rest has not. A text ends where a `<` follows it.
-pub record Splits (bytes : List ℕ) (toks : List Tok) (rest : List ℕ) : Type 0 where
+pub record Splits (bytes : List ℕ) (toks : List Token) (rest : List ℕ) : Type 0 where
   pub whole : bytes ≡ spellings toks ++ rest
   pub tokens : AreTokens toks
   pub begun : (rest ≡ []) ⊎ IsBegun rest
@@ -86,7 +86,7 @@ HasKind rest byte Attribute = ¬ IsAtUtf8 rest byte × ¬ IsAtEntity rest × ¬ 
 HasKind rest byte Name = ¬ IsAtUtf8 rest byte × ¬ IsAtEntity rest × ¬ IsAtText rest × ¬ IsAtComment rest × ¬ IsAtAttribute rest byte
 
 -- The bytes have a fault at this place, of this kind, and these tokens end before it.
-pub record HasFault (bytes : List ℕ) (toks : List Tok) (at : ℕ) (kind : ReadKind) : Type 0 where
+pub record HasFault (bytes : List ℕ) (toks : List Token) (at : ℕ) (kind : ReadKind) : Type 0 where
   pub rest : List ℕ
   pub first : IsFirstDead bytes at
   pub split : Splits (take at bytes) toks rest

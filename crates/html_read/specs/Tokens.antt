@@ -7,10 +7,10 @@ use Rattle.fizz_text.specs.declared.attribute.Attr.{Attr}
 use Rattle.html_names.specs.Elements.{IsVoidName}
 use Rattle.html_names.specs.Escape.{escaped}
 use Rattle.html_names.specs.Printing.{tag_front, end_tag}
-use Rattle.html_read.specs.declared.token.Said.{Said}
-use Rattle.html_read.specs.declared.token.Said.TheVariants.{Complete, Pending, Client, End as EndOfBoundary, Space}
-use Rattle.html_read.specs.declared.token.Tok.{Tok}
-use Rattle.html_read.specs.declared.token.Tok.TheVariants.{Start, End, Void, Text, Comment, Script}
+use Rattle.html_read.specs.declared.token.CommentKind.{CommentKind}
+use Rattle.html_read.specs.declared.token.CommentKind.TheVariants.{Complete, Pending, Client, End as EndOfBoundary, Space}
+use Rattle.html_read.specs.declared.token.Token.{Token}
+use Rattle.html_read.specs.declared.token.Token.TheVariants.{Start, End, Void, Text, Comment, Script}
 use Rattle.html_read.specs.Names.{IsTagName, IsAttributeName}
 
 -- An attribute has a value that is a text, or is `hidden` without one.
@@ -26,7 +26,7 @@ AreAttributes [] = Unit {0}
 AreAttributes (a ∷ more) = IsAttribute a × AreAttributes more
 
 -- What a comment says: the marks of boundaries, or the space between two texts.
-abbrev pub said : Said → List ℕ
+abbrev pub said : CommentKind → List ℕ
 said Complete = codes "$"
 said Pending = codes "$?"
 said Client = codes "$!"
@@ -41,7 +41,7 @@ abbrev pub IsScriptBody : List ℕ → Type 0
 IsScriptBody body = (before after : List ℕ) → body ≡ before ++ (script_end ++ after) → ⊥
 
 -- The bytes of a token.
-abbrev pub spelling : Tok → List ℕ
+abbrev pub spelling : Token → List ℕ
 spelling (Start name attributes from) = tag_front name attributes ++ codes ">"
 spelling (End name from) = end_tag name
 spelling (Void name attributes from) = tag_front name attributes ++ codes "/>"
@@ -49,11 +49,11 @@ spelling (Text text from) = escaped text
 spelling (Comment which from) = codes "<!--" ++ (said which ++ codes "-->")
 spelling (Script body from) = codes "<script>" ++ (body ++ script_end)
 
-abbrev pub spellings : List Tok → List ℕ
+abbrev pub spellings : List Token → List ℕ
 spellings toks = flat_map spelling toks
 
 -- What may be a token, its place apart.
-abbrev pub IsTok : Tok → Type 0
+abbrev pub IsTok : Token → Type 0
 IsTok (Start name attributes from) = IsTagName name × AreAttributes attributes
 IsTok (End name from) = IsTagName name
 IsTok (Void name attributes from) = IsVoidName name × AreAttributes attributes
@@ -62,7 +62,7 @@ IsTok (Comment which from) = Unit {0}
 IsTok (Script body from) = IsScriptBody body
 
 -- The place of a token's first byte.
-abbrev pub place_of : Tok → ℕ
+abbrev pub place_of : Token → ℕ
 place_of (Start name attributes from) = from
 place_of (End name from) = from
 place_of (Void name attributes from) = from
@@ -70,7 +70,7 @@ place_of (Text text from) = from
 place_of (Comment which from) = from
 place_of (Script body from) = from
 
-abbrev pub is_text : Tok → Bool
+abbrev pub is_text : Token → Bool
 is_text (Start name attributes from) = false
 is_text (End name from) = false
 is_text (Void name attributes from) = false
@@ -85,15 +85,15 @@ MayFollow true false = Unit {0}
 MayFollow false after = Unit {0}
 
 -- Tokens one after the other from a place on, after a text or not.
-abbrev pub AreTokensFrom : ℕ → Bool → List Tok → Type 0
+abbrev pub AreTokensFrom : ℕ → Bool → List Token → Type 0
 AreTokensFrom place after_text [] = Unit {0}
 AreTokensFrom place after_text (tok ∷ toks) =
     IsTok tok × (place_of tok ≡ place) × MayFollow after_text (is_text tok) × AreTokensFrom (place + length (spelling tok)) (is_text tok) toks
 
-abbrev pub AreTokens : List Tok → Type 0
+abbrev pub AreTokens : List Token → Type 0
 AreTokens toks = AreTokensFrom 0 false toks
 
 -- The bytes are these tokens.
-pub record Tokenizes (bytes : List ℕ) (toks : List Tok) : Type 0 where
+pub record Tokenizes (bytes : List ℕ) (toks : List Token) : Type 0 where
   pub spelled : bytes ≡ spellings toks
   pub tokens : AreTokens toks

@@ -3,9 +3,9 @@
 ghost use Rattle.std.specs.Prelude.{◌≡◌, ◌≢◌, ◌≤◌, ◌<◌, ◌==◌, ℕ, List, [], ◌∷◌, not, length, IfOk, IfSome, Some, None};
 ghost use Rattle.std.specs.Str.{IsUtf8};
 ghost use Rattle.html_read.specs.Names.{continues_attribute_name, IsTagName};
-ghost use Rattle.html_read.specs.Building.{front_len, IsTokenOf, IsTextOf, IsAttributeOf, AreAttributesOf, IsTextTokenOf, IsEndOf, IsSaidOf, IsCommentOf, IsScriptOf, IsTagOf};
+ghost use Rattle.html_read.specs.Building.{front_len, IsTokenOf, IsTextOf, IsAttributeOf, AreAttributesOf, IsTextTokenOf, IsEndOf, IsCommentKindOf, IsCommentOf, IsScriptOf, IsTagOf};
 
-use crate::token::{Body, Said, Tok};
+use crate::token::{Body, CommentKind, Token};
 use crate::words::after;
 use fizz_text::{Attr, Attributes, OutOfMemory, Text};
 use html_names::{EntityFault, element, unescape};
@@ -121,7 +121,7 @@ fn attributes_at(alloc: Global, bytes: &[u8]) -> Result<(Attributes, usize), Out
 }
 
 /// A start tag or a void tag.
-fn tag_of(alloc: Global, bytes: &[u8], from: usize) -> Result<Option<Tok>, OutOfMemory>
+fn tag_of(alloc: Global, bytes: &[u8], from: usize) -> Result<Option<Token>, OutOfMemory>
     ensures { IfOk result (IsTagOf bytes.now from) }
 {
     let named = after(bytes, 1);
@@ -132,13 +132,13 @@ fn tag_of(alloc: Global, bytes: &[u8], from: usize) -> Result<Option<Tok>, OutOf
     let (attributes, len) = attributes_at(alloc, rest)?;
     let end = after(rest, len);
     if end == b">".as_slice() {
-        Ok(Some(Tok::Start {
+        Ok(Some(Token::Start {
             name,
             attributes,
             from,
         }))
     } else if end == b"/>".as_slice() {
-        Ok(Some(Tok::Void {
+        Ok(Some(Token::Void {
             name,
             attributes,
             from,
@@ -148,60 +148,60 @@ fn tag_of(alloc: Global, bytes: &[u8], from: usize) -> Result<Option<Tok>, OutOf
     }
 }
 
-fn end_of(bytes: &[u8], from: usize) -> Option<Tok>
+fn end_of(bytes: &[u8], from: usize) -> Option<Token>
     ensures { IsEndOf bytes.now from result }
 {
     let name = bytes.strip_prefix(b"</")?.strip_suffix(b">")?;
-    Some(Tok::End {
+    Some(Token::End {
         name: tag_name(name)?,
         from,
     })
 }
 
-fn said_of(bytes: &[u8]) -> Option<Said>
-    ensures { IsSaidOf bytes.now result }
+fn said_of(bytes: &[u8]) -> Option<CommentKind>
+    ensures { IsCommentKindOf bytes.now result }
 {
     match bytes {
-        b"<!--$-->" => Some(Said::Complete),
-        b"<!--$?-->" => Some(Said::Pending),
-        b"<!--$!-->" => Some(Said::Client),
-        b"<!--/$-->" => Some(Said::End),
-        b"<!-- -->" => Some(Said::Space),
+        b"<!--$-->" => Some(CommentKind::Complete),
+        b"<!--$?-->" => Some(CommentKind::Pending),
+        b"<!--$!-->" => Some(CommentKind::Client),
+        b"<!--/$-->" => Some(CommentKind::End),
+        b"<!-- -->" => Some(CommentKind::Space),
         _ => None,
     }
 }
 
-fn comment_of(bytes: &[u8], from: usize) -> Option<Tok>
+fn comment_of(bytes: &[u8], from: usize) -> Option<Token>
     ensures { IsCommentOf bytes.now from result }
 {
     let which = said_of(bytes)?;
-    Some(Tok::Comment { which, from })
+    Some(Token::Comment { which, from })
 }
 
-fn script_of(alloc: Global, bytes: &[u8], from: usize) -> Result<Option<Tok>, OutOfMemory>
+fn script_of(alloc: Global, bytes: &[u8], from: usize) -> Result<Option<Token>, OutOfMemory>
     ensures { IfOk result (IsScriptOf bytes.now from) }
 {
     let Some(body) = after(bytes, 8).strip_suffix(b"</script>") else {
         return Ok(None);
     };
     let bytes = Vec::from_slice(alloc, body)?;
-    Ok(Some(Tok::Script {
+    Ok(Some(Token::Script {
         body: Body::new(bytes),
         from,
     }))
 }
 
-fn text_token(alloc: Global, bytes: &[u8], from: usize) -> Result<Option<Tok>, OutOfMemory>
+fn text_token(alloc: Global, bytes: &[u8], from: usize) -> Result<Option<Token>, OutOfMemory>
     ensures { IfOk result (IsTextTokenOf bytes.now from) }
 {
     match text_of(alloc, bytes)? {
-        Some(text) => Ok(Some(Tok::Text { text, from })),
+        Some(text) => Ok(Some(Token::Text { text, from })),
         None => Ok(None),
     }
 }
 
 /// The token that the bytes are.
-pub fn token_of(alloc: Global, bytes: &[u8], from: usize) -> Result<Option<Tok>, OutOfMemory>
+pub fn token_of(alloc: Global, bytes: &[u8], from: usize) -> Result<Option<Token>, OutOfMemory>
     ensures { IfOk result (IsTokenOf bytes.now from) }
 {
     if !bytes.starts_with(b"<") {

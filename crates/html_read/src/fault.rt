@@ -4,7 +4,7 @@ ghost use Rattle.std.specs.Prelude.{◌≡◌};
 ghost use Rattle.html_read.specs.declared.fault.ReadFault.TheVariants.{OutOfMemory as ReadMemory};
 ghost use Rattle.html_read.specs.declared.fault.FinishFault.TheVariants.{OutOfMemory as FinishMemory};
 
-use crate::token::Tok;
+use crate::token::Token;
 use fizz_text::OutOfMemory;
 use std::alloc::{AllocError, AllocFailed};
 
@@ -31,7 +31,7 @@ pub enum ReadFault {
     /// With the byte at `at` the stream can't become a page. `before` holds the tokens that end before it and that
     /// no earlier call gave.
     Bad {
-        before: Vec<Tok>,
+        before: Vec<Token>,
         at: usize,
         kind: ReadKind,
     },

@@ -1,7 +1,7 @@
 //! What holds of pages and of readings, whatever reader there is.
 
 ghost use Rattle.std.specs.Prelude.{◌≡◌, ℕ, true, false, List, ◌++◌};
-ghost use Rattle.html_read.specs.declared.token.Tok.{Tok as Token};
+ghost use Rattle.html_read.specs.declared.token.Token.{Token};
 ghost use Rattle.html_read.specs.Faults.{IsAlive, Splits, begins_tag, ends_in_text};
 ghost use Rattle.html_read.specs.Tokens.{AreTokens, Tokenizes, spellings};
 

@@ -16,4 +16,4 @@ mod words;
 pub use fault::{FinishFault, ReadFault, ReadKind};
 pub use laws::laws_of_tokens;
 pub use reader::Reader;
-pub use token::{Body, Said, Tok};
+pub use token::{Body, CommentKind, Token};

@@ -1,7 +1,7 @@
 //! The reader: a stream in pieces of any length.
 
 ghost use Rattle.std.specs.Prelude.{◌≡◌, ◌<◌, ◌+◌, ◌^◌, ℕ, List, [], ◌++◌, length, IfOk, IfErr, Some, Err, IsErrAnd, is_ok, if◌then◌else◌, option_to_list};
-ghost use Rattle.html_read.specs.declared.token.Tok.{Tok as Token};
+ghost use Rattle.html_read.specs.declared.token.Token.{Token};
 ghost use Rattle.html_read.specs.declared.fault.ReadKind.{ReadKind as Kind};
 ghost use Rattle.html_read.specs.declared.fault.FinishFault.TheVariants.{Bad as FinishBad};
 ghost use Rattle.html_read.specs.Tokens.{Tokenizes};
@@ -11,7 +11,7 @@ use crate::building::token_of;
 use crate::fault::{FinishFault, ReadFault, ReadKind};
 use crate::machine::Mode;
 use crate::place::Place;
-use crate::token::Tok;
+use crate::token::Token;
 use crate::walk::walk;
 use fizz_text::OutOfMemory;
 use std::alloc::Global;
@@ -32,10 +32,10 @@ pub struct Reader {
 
 impl Model for Reader {
     ghost use Rattle.std.specs.Prelude.{◌≡◌, Some};
-    ghost use Rattle.html_read.specs.Reading.{Held};
+    ghost use Rattle.html_read.specs.Reading.{ReaderState};
     ghost use Rattle.html_read.specs.Machine.{mode_of};
 
-    ghost Value = { Held };
+    ghost Value = { ReaderState };
 
     ghost view = { λ r. record { rest = r.pending.items; place = r.place; fault = r.fault } };
 
@@ -61,7 +61,7 @@ impl Reader {
     ///
     /// Refused with `Bad` exactly where the bytes so far can't become a page; from then on each call answers the
     /// same place and kind. Want of memory leaves the reader as it was.
-    pub fn feed(&mut self, piece: &[u8]) -> Result<Vec<Tok>, ReadFault>
+    pub fn feed(&mut self, piece: &[u8]) -> Result<Vec<Token>, ReadFault>
         requires { self.old.place + (length self.old.rest + length piece.now) < 2 ^ 63 }
         ensures taken { IfOk result (λ new. (bytes : List ℕ) (toks : List Token) → HasRead bytes toks self.old
             → HasRead (bytes ++ piece.now) (toks ++ new.items) self.new) }
@@ -103,7 +103,7 @@ impl Reader {
     }
 
     /// Ends the stream, and gives the text that is open.
-    pub fn finish(self) -> Result<Option<Tok>, FinishFault>
+    pub fn finish(self) -> Result<Option<Token>, FinishFault>
         ensures last { IfOk result (IsLast self) }
         ensures whole { IfOk result (λ last. (bytes : List ℕ) (toks : List Token) → HasRead bytes toks self
             → Tokenizes bytes (toks ++ option_to_list last)) }
@@ -123,7 +123,7 @@ impl Reader {
     }
 
     /// The token that `finish` would give now, or `None` where it would give none or be refused.
-    pub fn open_text(&self) -> Result<Option<Tok>, OutOfMemory>
+    pub fn open_text(&self) -> Result<Option<Token>, OutOfMemory>
         ensures { IfOk result (IsTextSoFar self.now) }
     {
         if self.fault.is_some() || self.pending.is_empty() || !self.mode.is_whole_text() {

@@ -1,6 +1,6 @@
 use crate::fault::{FinishFault, ReadFault, ReadKind};
 use crate::reader::Reader;
-use crate::token::{Said, Tok};
+use crate::token::{CommentKind, Token};
 use fizz_text::Attributes;
 use std::alloc::{AllocError, Global};
 use std::test::Fail;
@@ -93,20 +93,20 @@ fn describe_tag(
     Ok(())
 }
 
-fn word_of(which: Said) -> &'static str {
+fn word_of(which: CommentKind) -> &'static str {
     match which {
-        Said::Complete => "complete",
-        Said::Pending => "pending",
-        Said::Client => "client",
-        Said::End => "end",
-        Said::Space => "space",
+        CommentKind::Complete => "complete",
+        CommentKind::Pending => "pending",
+        CommentKind::Client => "client",
+        CommentKind::End => "end",
+        CommentKind::Space => "space",
     }
 }
 
 /// A token as `TOKENS` writes it.
-fn describe(out: &mut String, alloc: Global, tok: &Tok) -> Result<(), AllocError> {
+fn describe(out: &mut String, alloc: Global, tok: &Token) -> Result<(), AllocError> {
     let from = match tok {
-        Tok::Start {
+        Token::Start {
             name,
             attributes,
             from,
@@ -114,7 +114,7 @@ fn describe(out: &mut String, alloc: Global, tok: &Tok) -> Result<(), AllocError
             describe_tag(out, alloc, "start", name.as_str(), attributes)?;
             *from
         }
-        Tok::Void {
+        Token::Void {
             name,
             attributes,
             from,
@@ -122,19 +122,19 @@ fn describe(out: &mut String, alloc: Global, tok: &Tok) -> Result<(), AllocError
             describe_tag(out, alloc, "void", name.as_str(), attributes)?;
             *from
         }
-        Tok::End { name, from } => {
+        Token::End { name, from } => {
             out.push_str(&format!(in alloc; "end {}", name.as_str())?)?;
             *from
         }
-        Tok::Text { text, from } => {
+        Token::Text { text, from } => {
             out.push_str(&format!(in alloc; "text {}", text.as_str())?)?;
             *from
         }
-        Tok::Comment { which, from } => {
+        Token::Comment { which, from } => {
             out.push_str(word_of(*which))?;
             *from
         }
-        Tok::Script { body, from } => {
+        Token::Script { body, from } => {
             out.push_str("script ")?;
             out.push_str(str::from_utf8(body.as_bytes()).unwrap_or("?"))?;
             *from
@@ -143,7 +143,7 @@ fn describe(out: &mut String, alloc: Global, tok: &Tok) -> Result<(), AllocError
     out.push_str(&format!(in alloc; " {from}|")?)
 }
 
-fn describe_all(out: &mut String, alloc: Global, tokens: &[Tok]) -> Result<(), AllocError> {
+fn describe_all(out: &mut String, alloc: Global, tokens: &[Token]) -> Result<(), AllocError> {
     for tok in tokens {
         describe(out, alloc, tok)?;
     }
@@ -187,7 +187,7 @@ fn reads_single_bytes(rt: HostRuntime) -> Result<(), Fail> {
 }
 
 /// The fault that `feed` answered.
-fn bad(answer: Result<Vec<Tok>, ReadFault>) -> Option<(Vec<Tok>, usize, ReadKind)> {
+fn bad(answer: Result<Vec<Token>, ReadFault>) -> Option<(Vec<Token>, usize, ReadKind)> {
     match answer {
         Err(ReadFault::Bad { before, at, kind }) => Some((before, at, kind)),
         Err(ReadFault::OutOfMemory) => None,

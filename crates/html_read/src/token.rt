@@ -7,7 +7,7 @@ use std::marker::Model;
 
 /// What a comment says: `$`, `$?`, `$!` and `/$` mark the boundaries of a page, a space stands between two texts.
 #[derive(Clone, Copy, Debug, PartialEq, Eq, Drop)]
-pub enum Said {
+pub enum CommentKind {
     Complete,
     Pending,
     Client,
@@ -17,7 +17,7 @@ pub enum Said {
 
 /// A token. `from` is the place of its first byte in the stream, texts and values are unescaped.
 #[derive(Debug, Drop)]
-pub enum Tok {
+pub enum Token {
     /// `<name attributes>`
     Start {
         name: Text,
@@ -42,7 +42,7 @@ pub enum Tok {
     },
     /// `<!--`, what is said, `-->`
     Comment {
-        which: Said,
+        which: CommentKind,
         from: usize,
     },
     /// `<script>`, the body, `</script>`

@@ -7,7 +7,7 @@ use crate::building::token_of;
 use crate::fault::ReadKind;
 use crate::machine::{Mode, Turn, turn_of};
 use crate::place::Place;
-use crate::token::Tok;
+use crate::token::Token;
 use fizz_text::OutOfMemory;
 use std::alloc::Global;
 
@@ -21,7 +21,7 @@ pub struct At {
 /// What a walk found: the tokens that ended, where the rest begins, the mode in it, and the fault that ended the walk.
 #[derive(Debug, Drop)]
 pub struct Walked {
-    pub tokens: Vec<Tok>,
+    pub tokens: Vec<Token>,
     pub from: usize,
     pub mode: Mode,
     pub fault: Option<(usize, ReadKind)>,
@@ -30,7 +30,7 @@ pub struct Walked {
 /// Goes on over the byte at `i`, or tells what is wrong there.
 fn step(
     alloc: Global,
-    tokens: &mut Vec<Tok>,
+    tokens: &mut Vec<Token>,
     bytes: &[u8],
     at: At,
     i: usize,
@@ -67,7 +67,7 @@ fn step(
 
 fn add_token(
     alloc: Global,
-    tokens: &mut Vec<Tok>,
+    tokens: &mut Vec<Token>,
     bytes: &[u8],
     from: usize,
 ) -> Result<(), OutOfMemory>

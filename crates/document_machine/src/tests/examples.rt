@@ -3,7 +3,7 @@
 ghost use Rattle.std.specs.Prelude.{◌≡◌, ◌∷◌, [], None, Some, codes, false, true};
 ghost use Rattle.dom_forest.specs.Forest.{empty, tree};
 ghost use Rattle.dom_forest.specs.declared.node.NewNode.TheVariants.{Text};
-ghost use Rattle.html_read.specs.declared.token.Tok.TheVariants.{Start, Void};
+ghost use Rattle.html_read.specs.declared.token.Token.TheVariants.{Start, Void};
 ghost use Rattle.document_machine.specs.Examples.{container_inside, paragraph_and_end, placeholder, script_inside, shell_and_container};
 ghost use Rattle.document_machine.specs.Places.{first_late, still_open};
 ghost use Rattle.document_machine.specs.Reveals.{has_placeholder_before};

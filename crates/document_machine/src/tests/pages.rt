@@ -1,7 +1,7 @@
 //! Pages as bytes: cut at each place, seen before they end, and refused.
 
 ghost use Rattle.std.specs.Prelude.{◌+◌, ◌<◌, ◌≤◌, ◌^◌, length};
-ghost use Rattle.document_machine.specs.Holding.{fed};
+ghost use Rattle.document_machine.specs.MachineState.{fed};
 
 use super::views::push_items;
 use crate::{Machine, MachineFault, View};

@@ -1,5 +1,5 @@
 use crate::viewing::view_of;
-use crate::{Item, Kind, SettledRefused, View};
+use crate::{BoundaryStatus, Item, SettledRefused, View};
 use dom_forest::{Dom, DomNode, Mark, NewNode, NodeId, print_doc};
 use fizz_text::{Attr, Attributes, Text};
 use std::alloc::Global;
@@ -129,11 +129,11 @@ pub(super) fn push_items(out: &mut Vec<u8>, items: &[Item]) -> Result<(), Fail> 
     Ok(())
 }
 
-fn sign_of(kind: Kind) -> u8 {
+fn sign_of(kind: BoundaryStatus) -> u8 {
     match kind {
-        Kind::Complete => b'$',
-        Kind::Pending => b'?',
-        Kind::Client => b'!',
+        BoundaryStatus::Complete => b'$',
+        BoundaryStatus::Pending => b'?',
+        BoundaryStatus::Client => b'!',
     }
 }
 

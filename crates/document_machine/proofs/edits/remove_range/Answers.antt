@@ -1,5 +1,5 @@
 use Rattle.std.proofs.Common.{◌<◌, sym, subst}
-use Rattle.dom_forest.specs.Edits.{Numbered}
+use Rattle.dom_forest.specs.Edits.{DomState}
 use Rattle.dom_forest.specs.Forest.{from}
 use Rattle.document_machine.proofs.Ranges.{IsCut, width, cut_start, cut_none, cut_step, cut_smaller, cut_end, cut_there}
 use Rattle.document_machine.proofs.edits.remove_range.Goals as goal
@@ -13,7 +13,7 @@ unreachable-requires c =
 
 pub loop-node-smaller : goal.loop-node-smaller
 loop-node-smaller c =
-    subst (λ (d : Numbered). width (from c.in-Some.next.0 d.forest) < width (from c.loop-node.node.0 c.loop-node.dom.forest)) (sym c.in_ok-remove.ensures.rest)
+    subst (λ (d : DomState). width (from c.in-Some.next.0 d.forest) < width (from c.loop-node.node.0 c.loop-node.dom.forest)) (sym c.in_ok-remove.ensures.rest)
     (cut_smaller c.args.first.0 c.args.end.0 c.loop-node.node.0 c.args.dom.now c.loop-node.dom c.loop-node.invariant c.in-Some.next.0 c.loop-node-test.true (sym c.in-Some.ensures))
 
 pub loop-node-preserved : goal.loop-node-preserved

@@ -1,6 +1,6 @@
 use Rattle.std.proofs.Common.{◌≡◌, IfSome, Option, refl, sym, subst, arith}
 use Rattle.std.specs.Option.{IsNone}
-use Rattle.dom_forest.specs.Edits.{Numbered, part_of, renumbered}
+use Rattle.dom_forest.specs.Edits.{DomState, part_of, renumbered}
 use Rattle.dom_forest.specs.Forest.{Forest, empty, tree, IsElement, IsOneElement, first_content, first_tree, from}
 use Rattle.document_machine.proofs.Finding.{there_element}
 use Rattle.document_machine.proofs.edits.take_children.Goals as goal
@@ -20,5 +20,5 @@ pub inner-requires : goal.inner-requires
 inner-requires c =
     let id = c.args.element.0 in
     let dom = c.args.dom.now in
-    let part_is : c.in-Some.part ≡ part_of id dom = subst (λ (o : Option Numbered). IfSome o (λ d. d ≡ part_of id dom)) c.in-Some.is c.in_ok-part.ensures.part in
-    subst (λ (d : Numbered). IsOneElement d.forest) (sym part_is) (one_part (from id dom.forest) c.requires)
+    let part_is : c.in-Some.part ≡ part_of id dom = subst (λ (o : Option DomState). IfSome o (λ d. d ≡ part_of id dom)) c.in-Some.is c.in_ok-part.ensures.part in
+    subst (λ (d : DomState). IsOneElement d.forest) (sym part_is) (one_part (from id dom.forest) c.requires)

@@ -1,6 +1,6 @@
 use Rattle.std.proofs.Common.{◌≡◌, List, ℕ, Bool, Some, None, refl, subst, sym, ◌∙◌, ap}
 use Rattle.fizz_cli.specs.Lexemes.{IsNext, lexemes_bytes}
-use Rattle.fizz_cli.specs.LexemeViews.{Puts, lexeme_of, stack_of}
+use Rattle.fizz_cli.specs.LexemeViews.{WritesLexeme, lexeme_of, stack_of}
 use Rattle.fizz_cli.proofs.LongestRuns.{opposite}
 use Rattle.fizz_cli.proofs.LexemeLists.{Reading, HasRead, reads_none, reads_other, reads_on, reads_last, lexeme_longer}
 use Rattle.fizz_cli.proofs.Trees.{body_follows, body_of_row}
@@ -37,14 +37,14 @@ has_read_as body out new rest r p = subst (λ (o : List ℕ). HasRead body o res
 pub lexemes-preserved : goal.lexemes-preserved
 lexemes-preserved c =
     let next : IsNext c.lexemes.rest.now (Some (lexeme_of c.in-Some.lexeme, c.in-Some.more.now)) = rw c.in-Some.is at c.in_ok-lexeme.ensures in
-    let puts : Puts c.lexemes.out.items c.put_lexeme.new.out.items (stack_of c.lexemes.names.items) (stack_of c.put_lexeme.new.names.items) c.lexemes.after_text
+    let puts : WritesLexeme c.lexemes.out.items c.put_lexeme.new.out.items (stack_of c.lexemes.names.items) (stack_of c.put_lexeme.new.names.items) c.lexemes.after_text
     (lexeme_of c.in-Some.lexeme) (Some c.in-Some-2.is_text) = rw c.in-Some-2.is at c.in_ok-is_text.ensures in
     reading_as _ _ _ _ _ _ _ _ (reads_on _ _ _ _ _ _ _ c.lexemes.invariant next puts.0 (λ e. opposite _ (c.is_closed.ensures.1 (ap stack_of c.deref.ensures.value ∙ puts.2 ∙ e)) c.if-is_closed.false)) puts.1 puts.2 puts.3
 
 pub returns-then-is_end : goal.returns-then-is_end
 returns-then-is_end c =
     let next : IsNext c.lexemes.rest.now (Some (lexeme_of c.in-Some.lexeme, c.in-Some.more.now)) = rw c.in-Some.is at c.in_ok-lexeme.ensures in
-    let puts : Puts c.lexemes.out.items c.put_lexeme.new.out.items (stack_of c.lexemes.names.items) (stack_of c.put_lexeme.new.names.items) c.lexemes.after_text
+    let puts : WritesLexeme c.lexemes.out.items c.put_lexeme.new.out.items (stack_of c.lexemes.names.items) (stack_of c.put_lexeme.new.names.items) c.lexemes.after_text
     (lexeme_of c.in-Some.lexeme) (Some c.in-Some-2.is_text) = rw c.in-Some-2.is at c.in_ok-is_text.ensures in
     let read = has_read_as _ _ _ _
     (reads_last _ _ _ _ _ _ _ c.lexemes.invariant next puts.0
@@ -55,7 +55,7 @@ returns-then-is_end c =
 pub returns-else-is_end : goal.returns-else-is_end
 returns-else-is_end c = λ source is.
     let next : IsNext c.lexemes.rest.now (Some (lexeme_of c.in-Some.lexeme, c.in-Some.more.now)) = rw c.in-Some.is at c.in_ok-lexeme.ensures in
-    let puts : Puts c.lexemes.out.items c.put_lexeme.new.out.items (stack_of c.lexemes.names.items) (stack_of c.put_lexeme.new.names.items) c.lexemes.after_text
+    let puts : WritesLexeme c.lexemes.out.items c.put_lexeme.new.out.items (stack_of c.lexemes.names.items) (stack_of c.put_lexeme.new.names.items) c.lexemes.after_text
     (lexeme_of c.in-Some.lexeme) (Some c.in-Some-2.is_text) = rw c.in-Some-2.is at c.in_ok-is_text.ensures in
     let read = reads_last _ _ _ _ _ _ _ c.lexemes.invariant next puts.0
     (sym puts.2 ∙ ap stack_of (sym c.deref.ensures.value) ∙ c.is_closed.ensures.0 c.if-is_closed.true) in

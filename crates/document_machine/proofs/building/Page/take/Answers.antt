@@ -2,7 +2,7 @@ use Rattle.std.proofs.Common.{reverse, subst, sym, ap, ◌∙◌, refl}
 use Rattle.dom_forest.specs.declared.node.Mark.{Mark}
 use Rattle.dom_forest.specs.declared.node.NewNode.TheVariants.{Comment}
 use Rattle.document_machine.specs.Paths.{IsOpenDocument}
-use Rattle.document_machine.specs.Running.{Building, ids_of, with_node}
+use Rattle.document_machine.specs.Running.{PageState, ids_of, with_node}
 use Rattle.document_machine.proofs.Steps.{on_ok, on_err, ok_three, stepped, caused, opens_step, open_cause, ends_step, ends_document, close_cause, void_step, text_step, comment_step, script_step, script_cause}
 use Rattle.document_machine.proofs.building.Page.take.Goals as goal
 
@@ -30,7 +30,7 @@ returns-in-End-clause-refused c =
 pub returns-in-End-clause-document : goal.returns-in-End-clause-document
 returns-in-End-clause-document c =
     on_ok c.close.result _ _ (ends_document c.self-in-End.inside.dom (reverse c.self-in-End.inside.opened.items) (reverse c.close.new.opened.items) c.in-End.name
-    (subst (λ (b : Building). IsOpenDocument (ids_of b.opened) b.dom) (sym c.self-in-End.view_is) c.requires)) c.close.ensures.ok
+    (subst (λ (b : PageState). IsOpenDocument (ids_of b.opened) b.dom) (sym c.self-in-End.view_is) c.requires)) c.close.ensures.ok
 
 pub returns-in-Void-clause-step : goal.returns-in-Void-clause-step
 returns-in-Void-clause-step c =

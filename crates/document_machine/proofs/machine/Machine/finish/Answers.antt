@@ -1,6 +1,6 @@
 use Rattle.std.proofs.Common.{sym, ap, ◌∙◌}
 use Rattle.std.proofs.lemmas.Result.{err_from_is_err_and}
-use Rattle.dom_forest.specs.Edits.{Numbered}
+use Rattle.dom_forest.specs.Edits.{DomState}
 use Rattle.document_machine.specs.Views.{view_of}
 use Rattle.document_machine.proofs.Ends.{end_refusal, open_refusal, sees_whole}
 use Rattle.document_machine.proofs.machine.Machine.finish.Goals as goal
@@ -17,4 +17,4 @@ returns-then-is_open-clause-refused c =
 pub returns-clause-whole : goal.returns-clause-whole
 returns-clause-whole c =
     sees_whole _ c.args.self c.finish_page.new.page c.in_ok-view_of.field-0 c.self.view_is c.in_ok-finish_page.ensures.ended
-    (sym c.is_open.ensures ∙ c.if-is_open.false) (c.in_ok-view_of.ensures ∙ ap (λ (d : Numbered). view_of c.self.inside.prefix d.forest) c.dom.ensures)
+    (sym c.is_open.ensures ∙ c.if-is_open.false) (c.in_ok-view_of.ensures ∙ ap (λ (d : DomState). view_of c.self.inside.prefix d.forest) c.dom.ensures)

@@ -1,12 +1,12 @@
 use Rattle.std.proofs.Common.{ℕ, ◌+◌, Option, List, length, ap, ◌∙◌}
 use Rattle.dom_forest.specs.declared.chain.Slot.{Slot}
 use Rattle.dom_forest.specs.Chain.{entries_of, listed}
-use Rattle.dom_forest.specs.Edits.{Numbered, changed, renumbered, with_before}
+use Rattle.dom_forest.specs.Edits.{DomState, changed, renumbered, with_before}
 use Rattle.dom_forest.specs.Flat.{forest_of}
 use Rattle.dom_forest.specs.Forest.{Forest, tree, joined, count}
 use Rattle.dom_forest.proofs.dom.Dom.insert_before.Goals as goal
 
-abbrev dom_of : Forest → ℕ → Numbered
+abbrev dom_of : Forest → ℕ → DomState
 dom_of forest next = record { forest = forest; next = next }
 
 pub returns-in-Ok-clause-ok : goal.returns-in-Ok-clause-ok

@@ -1,23 +1,23 @@
 use Rattle.std.proofs.Common.{◌≡◌, ℕ, length, sym, subst, ap, ◌∙◌, arith}
 use Rattle.dom_forest.specs.Chain.{entries_of}
-use Rattle.dom_forest.specs.Edits.{Numbered, changed, digest_set, with_digest_at}
+use Rattle.dom_forest.specs.Edits.{DomState, changed, digest_set, with_digest_at}
 use Rattle.dom_forest.specs.Flat.{forest_of}
 use Rattle.dom_forest.specs.Forest.{Forest, tree, times, content_of, IsElement}
 use Rattle.dom_forest.proofs.There.{there_from_element, changed-same}
 use Rattle.dom_forest.proofs.dom.Dom.set_digest.Goals as goal
 
-abbrev dom_of : Forest → ℕ → Numbered
+abbrev dom_of : Forest → ℕ → DomState
 dom_of forest next = record { forest = forest; next = next }
 
 pub set_content-requires-clause-there : goal.set_content-requires-clause-there
 set_content-requires-clause-there c =
-    there_from_element c.args.node.0 (forest_of (entries_of c.self.inside.chain)) (subst (λ (d : Numbered). IsElement (content_of c.args.node.0 d.forest)) (sym c.self.view_is) c.requires)
+    there_from_element c.args.node.0 (forest_of (entries_of c.self.inside.chain)) (subst (λ (d : DomState). IsElement (content_of c.args.node.0 d.forest)) (sym c.self.view_is) c.requires)
 
 pub returns-in_ok-content-clause-ok : goal.returns-in_ok-content-clause-ok
 returns-in_ok-content-clause-ok c =
     let id = c.args.node.0 in
     let forest = forest_of (entries_of c.self.inside.chain) in
-    let there = there_from_element id forest (subst (λ (d : Numbered). IsElement (content_of id d.forest)) (sym c.self.view_is) c.requires) in
+    let there = there_from_element id forest (subst (λ (d : DomState). IsElement (content_of id d.forest)) (sym c.self.view_is) c.requires) in
     let once : times id forest ≡ 1 = omega (arith, there, c.self.invariant.held.document.numbered.once id) in
     let here = sym c.in-Some.ensures in
     let same : forest_of (entries_of c.set_content.new.chain) ≡ changed id (λ content kids later. tree id (digest_set c.args.digest content) kids later) forest =

@@ -1,6 +1,6 @@
 use Rattle.std.proofs.Common.{ℕ, length, ap, ◌∙◌, sym, subst}
 use Rattle.dom_forest.specs.Chain.{entries_of}
-use Rattle.dom_forest.specs.Edits.{Numbered, changed, with_content}
+use Rattle.dom_forest.specs.Edits.{DomState, changed, with_content}
 use Rattle.dom_forest.specs.Flat.{forest_of}
 use Rattle.dom_forest.specs.Forest.{Forest, content_of, tree, IsComment}
 use Rattle.dom_forest.specs.declared.node.NewNode.TheVariants.{Comment}
@@ -9,9 +9,9 @@ use Rattle.dom_forest.proofs.dom.Dom.set_mark.Goals as goal
 
 pub set_content-requires-clause-there : goal.set_content-requires-clause-there
 set_content-requires-clause-there c =
-    there_from_comment c.args.node.0 (forest_of (entries_of c.self.inside.chain)) (subst (λ (d : Numbered). IsComment (content_of c.args.node.0 d.forest)) (sym c.self.view_is) c.requires)
+    there_from_comment c.args.node.0 (forest_of (entries_of c.self.inside.chain)) (subst (λ (d : DomState). IsComment (content_of c.args.node.0 d.forest)) (sym c.self.view_is) c.requires)
 
-abbrev dom_of : Forest → ℕ → Numbered
+abbrev dom_of : Forest → ℕ → DomState
 dom_of forest next = record { forest = forest; next = next }
 
 pub returns : goal.returns

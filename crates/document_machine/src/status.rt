@@ -2,7 +2,7 @@
 
 /// What a boundary shows.
 #[derive(Clone, Copy, Debug, PartialEq, Eq, Drop)]
-pub enum Kind {
+pub enum BoundaryStatus {
     /// `$`: its content.
     Complete,
     /// `$?`: its fallback, until the content comes.

@@ -1,38 +1,38 @@
 -- What a machine holds, and when its calls refuse. Want of memory may always come.
 use Rattle.std.specs.Prelude.{◌≡◌, ◌⊎◌, Option, Some, None, ℕ, ◌+◌, List, ◌++◌, length, Result, Ok, Err}
-use Rattle.html_read.specs.declared.token.Tok.{Tok}
-use Rattle.html_read.specs.Reading.{Held, HasRead, nothing_read}
+use Rattle.html_read.specs.declared.token.Token.{Token}
+use Rattle.html_read.specs.Reading.{ReaderState, HasRead, nothing_read}
 use Rattle.document_machine.specs.declared.fault.MachineFault.{MachineFault}
 use Rattle.document_machine.specs.declared.fault.MachineFault.TheVariants.{Html, UnknownFunction, NoSuchId, NotBoundary, OutOfMemory}
 use Rattle.document_machine.specs.declared.stop.Stop.{Stop}
 use Rattle.document_machine.specs.declared.stop.Stop.TheVariants.{GoesOn, Faulted, NoMemory}
 use Rattle.document_machine.specs.declared.view.View.{View as Seen}
-use Rattle.document_machine.specs.Running.{Building, at_first}
+use Rattle.document_machine.specs.Running.{PageState, at_first}
 use Rattle.document_machine.specs.Documents.{Steps, Runs, RunsWhole}
 use Rattle.document_machine.specs.Faults.{HasMachineFault, EndsEarly, Refuses}
 use Rattle.document_machine.specs.Shown.{seen}
 use Rattle.document_machine.specs.Views.{view_of}
 
 -- The prefix of the page's ids, the reader with its rest, what is built, and whether the machine goes on.
-pub record Holding : Type 0 where
+pub record MachineState : Type 0 where
   pub prefix : List ℕ
-  pub reader : Held
-  pub built : Building
+  pub reader : ReaderState
+  pub built : PageState
   pub stop : Stop
 
 -- Before the first byte.
-abbrev pub nothing_run : List ℕ → Holding
+abbrev pub nothing_run : List ℕ → MachineState
 nothing_run prefix = record { prefix = prefix; reader = nothing_read; built = at_first; stop = GoesOn }
 
 -- The machine was fed these bytes, in whatever pieces, and could follow their tokens.
-pub record HasRun (bytes : List ℕ) (machine : Holding) : Type 0 where
-  pub toks : List Tok
+pub record HasRun (bytes : List ℕ) (machine : MachineState) : Type 0 where
+  pub toks : List Token
   pub read : HasRead bytes toks machine.reader
   pub steps : Steps machine.prefix at_first toks machine.built
   pub goes_on : machine.stop ≡ GoesOn
 
 -- How many bytes were fed.
-abbrev pub fed : Holding → ℕ
+abbrev pub fed : MachineState → ℕ
 fed machine = machine.reader.place + length machine.reader.rest
 
 -- No call answered a fault of the bytes.
@@ -42,7 +42,7 @@ IsSound (Faulted fault) = ⊥
 IsSound NoMemory = Unit {0}
 
 -- Why a token could not be followed.
-abbrev pub IsStepCause : List ℕ → Building → Tok → MachineFault → Type 0
+abbrev pub IsStepCause : List ℕ → PageState → Token → MachineFault → Type 0
 IsStepCause prefix built tok (Html at) = Refuses prefix built tok (Html at)
 IsStepCause prefix built tok (UnknownFunction at) = Refuses prefix built tok (UnknownFunction at)
 IsStepCause prefix built tok (NoSuchId at id) = Refuses prefix built tok (NoSuchId at id)
@@ -50,12 +50,12 @@ IsStepCause prefix built tok (NotBoundary at) = Refuses prefix built tok (NotBou
 IsStepCause prefix built tok OutOfMemory = Unit {0}
 
 -- The machine stops with the fault, whatever bytes it was fed before.
-pub record Stops (old : Holding) (piece : List ℕ) (new : Holding) (fault : MachineFault) : Type 0 where
+pub record Stops (old : MachineState) (piece : List ℕ) (new : MachineState) (fault : MachineFault) : Type 0 where
   pub stopped : new.stop ≡ Faulted fault
   pub cause : (bytes : List ℕ) → HasRun bytes old → HasMachineFault old.prefix at_first (bytes ++ piece) fault
 
 -- It answers what it answered, or wants memory for that.
-abbrev pub FeedRefusal : Holding → List ℕ → Holding → MachineFault → Type 0
+abbrev pub FeedRefusal : MachineState → List ℕ → MachineState → MachineFault → Type 0
 FeedRefusal old piece new (Html at) = Stops old piece new (Html at)
 FeedRefusal old piece new (UnknownFunction at) = Stops old piece new (UnknownFunction at)
 FeedRefusal old piece new (NoSuchId at id) = Stops old piece new (NoSuchId at id)
@@ -85,19 +85,19 @@ IsMet (Faulted fault) (Some answer) = (answer ≡ fault) ⊎ (answer ≡ OutOfMe
 IsMet NoMemory met = met ≡ Some OutOfMemory
 
 -- The view is that of the document so far.
-pub record Sees (machine : Holding) (bytes : List ℕ) (view : Seen) : Type 0 where
-  pub built : Building
+pub record Sees (machine : MachineState) (bytes : List ℕ) (view : Seen) : Type 0 where
+  pub built : PageState
   pub run : Runs machine.prefix at_first bytes built
   pub is : seen view.items ≡ view_of machine.prefix built.dom.forest
 
 -- The view is that of the whole document.
-pub record SeesWhole (machine : Holding) (bytes : List ℕ) (view : Seen) : Type 0 where
-  pub built : Building
+pub record SeesWhole (machine : MachineState) (bytes : List ℕ) (view : Seen) : Type 0 where
+  pub built : PageState
   pub run : RunsWhole machine.prefix at_first bytes built
   pub is : seen view.items ≡ view_of machine.prefix built.dom.forest
 
 -- Why a machine that goes on does not finish: the bytes end too early.
-abbrev pub FinishRefusal : Holding → List ℕ → MachineFault → Type 0
+abbrev pub FinishRefusal : MachineState → List ℕ → MachineFault → Type 0
 FinishRefusal machine bytes (Html at) = EndsEarly machine.prefix at_first bytes at
 FinishRefusal machine bytes (UnknownFunction at) = ⊥
 FinishRefusal machine bytes (NoSuchId at id) = ⊥
