@@ -4,7 +4,7 @@ use Rattle.std.proofs.lemmas.Slice.Eq.{bytes_eq-Decides}
 use Rattle.fizz_text.specs.declared.attribute.Attr.{Attr}
 use Rattle.html_read.specs.declared.token.Token.{Token}
 use Rattle.html_read.specs.declared.token.Token.TheVariants as tok
-use Rattle.html_read.specs.declared.token.CommentKind.{CommentKind}
+use Rattle.html_names.specs.declared.comments.CommentKind.{CommentKind}
 use Rattle.dom_forest.specs.Edits.{DomState, appended}
 use Rattle.dom_forest.specs.declared.node.NewNode.TheVariants.{Element, Text, Comment}
 use Rattle.fizz_instructions.specs.declared.instruction.Sent.{Sent}

@@ -4,10 +4,11 @@ use Rattle.std.specs.Str.{IsUtf8}
 use Rattle.fizz_text.specs.declared.attribute.Attr.{Attr}
 use Rattle.html_names.specs.Escape.{escaped}
 use Rattle.html_names.specs.Printing.{tag_front, end_tag}
-use Rattle.html_read.specs.Tokens.{said, AreAttributes}
+use Rattle.html_names.specs.Comments.{comment_spelling}
+use Rattle.html_read.specs.Tokens.{AreAttributes}
 use Rattle.html_read.specs.Names.{IsTagName}
-use Rattle.html_read.specs.declared.token.CommentKind.{CommentKind}
-use Rattle.html_read.specs.declared.token.CommentKind.TheVariants as said
+use Rattle.html_names.specs.declared.comments.CommentKind.{CommentKind}
+use Rattle.html_names.specs.declared.comments.CommentKind.TheVariants as said
 use Rattle.dom_forest.specs.Printing.{is_void}
 use Rattle.dom_forest.specs.Forest.{Forest, empty, tree, count}
 use Rattle.dom_forest.specs.Edits.{DomState, with_last, renumbered}
@@ -35,7 +36,7 @@ abbrev pub page_bytes : Forest → List ℕ
 page_bytes empty = []
 page_bytes (tree i (Element name attributes) kids later) = element_bytes name attributes (page_bytes kids) ++ page_bytes later
 page_bytes (tree i (Text text) kids later) = escaped text ++ page_bytes later
-page_bytes (tree i (Comment mark) kids later) = (codes "<!--" ++ (said (said_of mark) ++ codes "-->")) ++ page_bytes later
+page_bytes (tree i (Comment mark) kids later) = comment_spelling (said_of mark) ++ page_bytes later
 
 abbrev pub HasNoNode : Forest → Type 0
 HasNoNode empty = Unit {0}

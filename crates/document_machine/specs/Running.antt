@@ -1,8 +1,8 @@
 -- What a token does to a document that is being built: tags nest strictly, and a script runs when its end was read.
 use Rattle.std.specs.Prelude.{ℕ, List, [], ◌∷◌, Option, Some, None}
 use Rattle.fizz_text.specs.declared.attribute.Attr.{Attr}
-use Rattle.html_read.specs.declared.token.CommentKind.{CommentKind}
-use Rattle.html_read.specs.declared.token.CommentKind.TheVariants as said
+use Rattle.html_names.specs.declared.comments.CommentKind.{CommentKind}
+use Rattle.html_names.specs.declared.comments.CommentKind.TheVariants as said
 use Rattle.dom_forest.specs.Edits.{DomState, nothing, appended}
 use Rattle.dom_forest.specs.declared.node.Mark.{Mark}
 use Rattle.dom_forest.specs.declared.node.Mark.TheVariants.{Complete, Pending, Client, End, Space}

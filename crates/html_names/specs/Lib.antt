@@ -1,4 +1,5 @@
 pub mod Attributes
+pub mod Comments
 pub mod Elements
 pub mod Escape
 pub mod Faults

@@ -5,6 +5,7 @@
 #![tactic(auto)]
 
 mod attributes;
+mod comments;
 mod elements;
 mod escape;
 mod js_string;
@@ -12,6 +13,7 @@ mod memory;
 mod names;
 
 pub use attributes::{AttrKind, AttrName, Attribute};
+pub use comments::{CommentKind, comment};
 pub use elements::Element;
 pub use escape::{EntityFault, laws_of_escaping, push_escaped, unescape};
 pub use js_string::{laws_of_js_strings, push_js_string, read_js_string};

@@ -11,8 +11,8 @@ use Rattle.std.proofs.lemmas.Str.{IsUtf8-nil}
 use Rattle.fizz_text.specs.declared.attribute.Attr.{Attr}
 use Rattle.html_names.specs.Escape.{escaped, entities}
 use Rattle.html_names.specs.Elements.{element_rows}
-use Rattle.html_read.specs.declared.token.CommentKind.{CommentKind}
-use Rattle.html_read.specs.declared.token.CommentKind.TheVariants as saids
+use Rattle.html_names.specs.declared.comments.CommentKind.{CommentKind}
+use Rattle.html_names.specs.declared.comments.CommentKind.TheVariants as kind
 use Rattle.html_read.specs.declared.token.Token.{Token}
 use Rattle.html_read.specs.declared.token.Token.TheVariants as toks
 use Rattle.html_read.specs.declared.place.Tail.{Tail}
@@ -27,7 +27,8 @@ use Rattle.html_read.specs.declared.machine.Turn.{Turn}
 use Rattle.html_read.specs.declared.machine.Turn.TheVariants.{Goes, Ends, Cuts, Fails}
 use Rattle.html_read.specs.Names.{is_letter, is_digit, continues_attribute_name, IsAttributeName}
 use Rattle.html_names.specs.Printing.{written_attribute, written_attributes, tag_front}
-use Rattle.html_read.specs.Tokens.{IsAttribute, AreAttributes, said, script_end, IsScriptBody, spelling, IsTok, place_of, is_text}
+use Rattle.html_names.specs.Comments.{comment_data}
+use Rattle.html_read.specs.Tokens.{IsAttribute, AreAttributes, script_end, IsScriptBody, spelling, IsTok, place_of, is_text}
 use Rattle.html_read.specs.Machine.{is_word, begins_word, tag_words, start_words, comment_words, tag_flag, next_within, tail_after, starts_char, entity_after, place_after, text_turn, value_turn, close_turn, flag_turn, after_name, name_turn, end_flag_turn, end_name_turn, comment_turn, script_turn, space_turn, attribute_turn, equals_turn, slash_turn, turn_of}
 use Rattle.html_read.proofs.WordFronts.{none_true, tag_of_flag, void_of_flag}
 use Rattle.html_read.proofs.Runs.{HasRun, HasWhole, place_keeps}
@@ -269,18 +270,18 @@ end_name_good name b =
 -- the five comments
 pub record IsSaid (word : List ℕ) : Type 0 where
   pub which : CommentKind
-  pub is : word ≡ codes "--" ++ (said which ++ codes "-->")
+  pub is : word ≡ codes "--" ++ (comment_data which ++ codes "-->")
 
-said_at : (word : List ℕ) (which : CommentKind) → bytes_eq (codes "--" ++ (said which ++ codes "-->")) word ≡ true → IsSaid word
+said_at : (word : List ℕ) (which : CommentKind) → bytes_eq (codes "--" ++ (comment_data which ++ codes "-->")) word ≡ true → IsSaid word
 said_at word which e = record { which = which; is = sym ((bytes_eq-Decides _ word).0 e) }
 
 pub comment_word : (word : List ℕ) → is_word comment_words word ≡ true → IsSaid word
 comment_word word h1 =
-    ⊎_elim (said_at word saids.Complete) (λ h2.
-    ⊎_elim (said_at word saids.Pending) (λ h3.
-    ⊎_elim (said_at word saids.Client) (λ h4.
-    ⊎_elim (said_at word saids.End) (λ h5.
-    ⊎_elim (said_at word saids.Space) (λ h6. absurd (none_true h6))
+    ⊎_elim (said_at word kind.Complete) (λ h2.
+    ⊎_elim (said_at word kind.Pending) (λ h3.
+    ⊎_elim (said_at word kind.Client) (λ h4.
+    ⊎_elim (said_at word kind.End) (λ h5.
+    ⊎_elim (said_at word kind.Space) (λ h6. absurd (none_true h6))
     (or_cases _ _ h5)) (or_cases _ _ h4)) (or_cases _ _ h3)) (or_cases _ _ h2)) (or_cases _ _ h1)
 
 comment_good : (word : List ℕ) (b : ℕ) → IsGoodTurn (60 ∷ 33 ∷ word) b (comment_turn (word ++ b ∷ []))

@@ -9,8 +9,8 @@ use Rattle.std.proofs.lemmas.Slice.Eq.{bytes_eq-Decides, ends_is}
 use Rattle.fizz_text.specs.declared.attribute.Attr.{Attr}
 use Rattle.html_names.specs.Escape.{escaped}
 use Rattle.html_names.specs.Elements.{element_rows}
-use Rattle.html_read.specs.declared.token.CommentKind.{CommentKind}
-use Rattle.html_read.specs.declared.token.CommentKind.TheVariants as saids
+use Rattle.html_names.specs.declared.comments.CommentKind.{CommentKind}
+use Rattle.html_names.specs.declared.comments.CommentKind.TheVariants as kind
 use Rattle.html_read.specs.declared.token.Token.{Token}
 use Rattle.html_read.specs.declared.token.Token.TheVariants as toks
 use Rattle.html_read.specs.declared.fault.ReadKind.TheVariants as kinds
@@ -20,7 +20,8 @@ use Rattle.html_read.specs.declared.machine.Mode.TheVariants.{Name, EndName, Com
 use Rattle.html_read.specs.declared.machine.Turn.TheVariants.{Goes, Ends, Fails}
 use Rattle.html_read.specs.Names.{is_letter, continues_attribute_name, IsTagName, IsAttributeName}
 use Rattle.html_names.specs.Printing.{written_value, written_attribute, written_attributes, tag_front}
-use Rattle.html_read.specs.Tokens.{HasValue, AreAttributes, said, script_end, IsScriptBody, spelling, IsTok, is_text}
+use Rattle.html_names.specs.Comments.{comment_data}
+use Rattle.html_read.specs.Tokens.{HasValue, AreAttributes, script_end, IsScriptBody, spelling, IsTok, is_text}
 use Rattle.html_read.specs.Machine.{is_word, begins_word, tag_words, start_words, tag_flag, close_turn, flag_turn, end_flag_turn, go_on, mode_after}
 use Rattle.html_read.proofs.WordFronts.{none_true, begins_gives, is_name_byte, begins_with_letter, start_word_bytes, tag_name_letter, tag_name_is, tag_name_not_script, tag_of_flag, flag_of_tag, flag_of_void}
 use Rattle.html_read.proofs.Fits.{script_goes}
@@ -196,12 +197,12 @@ bang_goes = refl
 comment_on : (front : List ℕ) → mode_after Comment (60 ∷ 33 ∷ []) front ≡ Some Comment → mode_after Name (60 ∷ []) (33 ∷ front) ≡ Some Comment
 comment_on front h = ap (λ t. go_on t (λ m. mode_after m (60 ∷ 33 ∷ []) front)) bang_goes ∙ h
 
-comment_passes : (which : CommentKind) → Passes (codes "<!--" ++ (said which ++ codes "-->"))
-comment_passes saids.Complete = record { front = codes "!--$--"; last = 62; mode = Comment; is = refl; through = comment_on (codes "--$--") refl; ends = refl }
-comment_passes saids.Pending = record { front = codes "!--$?--"; last = 62; mode = Comment; is = refl; through = comment_on (codes "--$?--") refl; ends = refl }
-comment_passes saids.Client = record { front = codes "!--$!--"; last = 62; mode = Comment; is = refl; through = comment_on (codes "--$!--") refl; ends = refl }
-comment_passes saids.End = record { front = codes "!--/$--"; last = 62; mode = Comment; is = refl; through = comment_on (codes "--/$--") refl; ends = refl }
-comment_passes saids.Space = record { front = codes "!-- --"; last = 62; mode = Comment; is = refl; through = comment_on (codes "-- --") refl; ends = refl }
+comment_passes : (which : CommentKind) → Passes (codes "<!--" ++ (comment_data which ++ codes "-->"))
+comment_passes kind.Complete = record { front = codes "!--$--"; last = 62; mode = Comment; is = refl; through = comment_on (codes "--$--") refl; ends = refl }
+comment_passes kind.Pending = record { front = codes "!--$?--"; last = 62; mode = Comment; is = refl; through = comment_on (codes "--$?--") refl; ends = refl }
+comment_passes kind.Client = record { front = codes "!--$!--"; last = 62; mode = Comment; is = refl; through = comment_on (codes "--$!--") refl; ends = refl }
+comment_passes kind.End = record { front = codes "!--/$--"; last = 62; mode = Comment; is = refl; through = comment_on (codes "--/$--") refl; ends = refl }
+comment_passes kind.Space = record { front = codes "!-- --"; last = 62; mode = Comment; is = refl; through = comment_on (codes "-- --") refl; ends = refl }
 
 -- A script.
 not_ended : (body : List ℕ) (b : ℕ) → b ≢ 62 → ends_with nat_eq (body ++ b ∷ []) script_end ≡ false

@@ -7,8 +7,8 @@ use Rattle.std.proofs.lemmas.List.{append_cancel_right, append_cancel_left, take
 use Rattle.fizz_text.specs.declared.attribute.Attr.{Attr}
 use Rattle.html_names.specs.Escape.{spelling_of, escaped}
 use Rattle.html_names.proofs.Escaping.{each_byte, plain_spelling, escaped_injective, spelling_some}
-use Rattle.html_read.specs.declared.token.CommentKind.{CommentKind}
-use Rattle.html_read.specs.declared.token.CommentKind.TheVariants as saids
+use Rattle.html_names.specs.declared.comments.CommentKind.{CommentKind}
+use Rattle.html_names.specs.declared.comments.CommentKind.TheVariants as kind
 use Rattle.html_read.specs.declared.token.Token.{Token}
 use Rattle.html_read.specs.declared.token.Token.TheVariants.{Start, End, Void, Text, Comment, Script}
 use Rattle.html_read.specs.declared.machine.Mode.{Mode}
@@ -17,7 +17,8 @@ use Rattle.html_read.specs.declared.machine.Turn.{Turn}
 use Rattle.html_read.specs.declared.machine.Turn.TheVariants.{Goes, Ends, Cuts, Fails}
 use Rattle.html_read.specs.Names.{continues_attribute_name, IsTagName}
 use Rattle.html_names.specs.Printing.{written_value, written_attribute, written_attributes, tag_front}
-use Rattle.html_read.specs.Tokens.{IsAttribute, AreAttributes, said, script_end, spelling, spellings, IsTok, AreTokensFrom, MayFollow, AreTokens, Tokenizes, place_of, is_text}
+use Rattle.html_names.specs.Comments.{comment_data}
+use Rattle.html_read.specs.Tokens.{IsAttribute, AreAttributes, script_end, spelling, spellings, IsTok, AreTokensFrom, MayFollow, AreTokens, Tokenizes, place_of, is_text}
 use Rattle.html_read.specs.Faults.{begins_tag, ends_in_text, IsBegun, Splits}
 use Rattle.html_read.specs.Building.{front_len, IsTokenOf, EndsAttribute, EndsTag, IsTagOf}
 use Rattle.html_read.specs.Machine.{go_on, mode_after}
@@ -101,20 +102,20 @@ not_ends e = apart_heads 62 47 [] (62 ∷ []) (λ k. omega arith) e
 -- what a comment says, by its bytes
 which_of : List ℕ → CommentKind
 which_of bytes =
-    if bytes_eq bytes (said saids.Complete ++ codes "-->") then saids.Complete else
-    if bytes_eq bytes (said saids.Pending ++ codes "-->") then saids.Pending else
-    if bytes_eq bytes (said saids.Client ++ codes "-->") then saids.Client else
-    if bytes_eq bytes (said saids.End ++ codes "-->") then saids.End else saids.Space
+    if bytes_eq bytes (comment_data kind.Complete ++ codes "-->") then kind.Complete else
+    if bytes_eq bytes (comment_data kind.Pending ++ codes "-->") then kind.Pending else
+    if bytes_eq bytes (comment_data kind.Client ++ codes "-->") then kind.Client else
+    if bytes_eq bytes (comment_data kind.End ++ codes "-->") then kind.End else kind.Space
 
-which_is : (which : CommentKind) → which_of (said which ++ codes "-->") ≡ which
+which_is : (which : CommentKind) → which_of (comment_data which ++ codes "-->") ≡ which
 unfolding which_of
-which_is saids.Complete = refl
-which_is saids.Pending = refl
-which_is saids.Client = refl
-which_is saids.End = refl
-which_is saids.Space = refl
+which_is kind.Complete = refl
+which_is kind.Pending = refl
+which_is kind.Client = refl
+which_is kind.End = refl
+which_is kind.Space = refl
 
-which_same : (a b : CommentKind) → said a ++ codes "-->" ≡ said b ++ codes "-->" → a ≡ b
+which_same : (a b : CommentKind) → comment_data a ++ codes "-->" ≡ comment_data b ++ codes "-->" → a ≡ b
 which_same a b e = sym (which_is a) ∙ (ap which_of e ∙ which_is b)
 
 no_less : (bytes : List ℕ) → begins_tag bytes ≡ false → starts_with nat_eq bytes (codes "<") ≡ false

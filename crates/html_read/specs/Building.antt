@@ -4,7 +4,7 @@ use Rattle.std.specs.Str.{IsUtf8}
 use Rattle.fizz_text.specs.declared.attribute.Attr.{Attr}
 use Rattle.html_names.specs.Escape.{escaped}
 use Rattle.html_read.specs.declared.token.Token.{Token}
-use Rattle.html_read.specs.declared.token.CommentKind.{CommentKind}
+use Rattle.html_names.specs.declared.comments.CommentKind.{CommentKind}
 use Rattle.html_read.specs.declared.token.Token.TheVariants.{Start, End, Void, Text, Comment, Script}
 use Rattle.html_read.specs.Names.{continues_attribute_name, IsTagName}
 use Rattle.html_names.specs.Printing.{written_attribute, written_attributes}
@@ -48,9 +48,6 @@ IsTextTokenOf bytes from found = (text : List ℕ) → IsUtf8 text → bytes ≡
 
 abbrev pub IsEndOf : List ℕ → ℕ → Option Token → Type 0
 IsEndOf bytes from found = (name : List ℕ) → IsTagName name → bytes ≡ spelling (End name from) → found ≡ Some (End name from)
-
-abbrev pub IsCommentKindOf : List ℕ → Option CommentKind → Type 0
-IsCommentKindOf bytes found = (which : CommentKind) → bytes ≡ spelling (Comment which 0) → found ≡ Some which
 
 abbrev pub IsCommentOf : List ℕ → ℕ → Option Token → Type 0
 IsCommentOf bytes from found = (which : CommentKind) → bytes ≡ spelling (Comment which from) → found ≡ Some (Comment which from)

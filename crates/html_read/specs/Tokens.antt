@@ -4,11 +4,10 @@ use Rattle.std.specs.Prelude.{◌≡◌, ◌≢◌, ℕ, ◌+◌, Bool, true, fa
 use Rattle.std.specs.List.{flat_map}
 use Rattle.std.specs.Str.{IsUtf8}
 use Rattle.fizz_text.specs.declared.attribute.Attr.{Attr}
+use Rattle.html_names.specs.Comments.{comment_spelling}
 use Rattle.html_names.specs.Elements.{IsVoidName}
 use Rattle.html_names.specs.Escape.{escaped}
 use Rattle.html_names.specs.Printing.{tag_front, end_tag}
-use Rattle.html_read.specs.declared.token.CommentKind.{CommentKind}
-use Rattle.html_read.specs.declared.token.CommentKind.TheVariants.{Complete, Pending, Client, End as EndOfBoundary, Space}
 use Rattle.html_read.specs.declared.token.Token.{Token}
 use Rattle.html_read.specs.declared.token.Token.TheVariants.{Start, End, Void, Text, Comment, Script}
 use Rattle.html_read.specs.Names.{IsTagName, IsAttributeName}
@@ -25,14 +24,6 @@ abbrev pub AreAttributes : List Attr → Type 0
 AreAttributes [] = Unit {0}
 AreAttributes (a ∷ more) = IsAttribute a × AreAttributes more
 
--- What a comment says: the marks of boundaries, or the space between two texts.
-abbrev pub said : CommentKind → List ℕ
-said Complete = codes "$"
-said Pending = codes "$?"
-said Client = codes "$!"
-said EndOfBoundary = codes "/$"
-said Space = codes " "
-
 -- The end of a script does not stand in its body.
 abbrev pub script_end : List ℕ
 script_end = codes "</script>"
@@ -46,7 +37,7 @@ spelling (Start name attributes from) = tag_front name attributes ++ codes ">"
 spelling (End name from) = end_tag name
 spelling (Void name attributes from) = tag_front name attributes ++ codes "/>"
 spelling (Text text from) = escaped text
-spelling (Comment which from) = codes "<!--" ++ (said which ++ codes "-->")
+spelling (Comment which from) = comment_spelling which
 spelling (Script body from) = codes "<script>" ++ (body ++ script_end)
 
 abbrev pub spellings : List Token → List ℕ

@@ -3,12 +3,12 @@
 ghost use Rattle.std.specs.Prelude.{◌≡◌, ◌≢◌, ◌≤◌, ◌<◌, ◌==◌, ℕ, List, [], ◌∷◌, not, length, IfOk, IfSome, Some, None};
 ghost use Rattle.std.specs.Str.{IsUtf8};
 ghost use Rattle.html_read.specs.Names.{continues_attribute_name, IsTagName};
-ghost use Rattle.html_read.specs.Building.{front_len, IsTokenOf, IsTextOf, IsAttributeOf, AreAttributesOf, IsTextTokenOf, IsEndOf, IsCommentKindOf, IsCommentOf, IsScriptOf, IsTagOf};
+ghost use Rattle.html_read.specs.Building.{front_len, IsTokenOf, IsTextOf, IsAttributeOf, AreAttributesOf, IsTextTokenOf, IsEndOf, IsCommentOf, IsScriptOf, IsTagOf};
 
-use crate::token::{Body, CommentKind, Token};
+use crate::token::{Body, Token};
 use crate::words::after;
 use fizz_text::{Attr, Attributes, OutOfMemory, Text};
-use html_names::{EntityFault, element, unescape};
+use html_names::{EntityFault, comment, element, unescape};
 use std::alloc::Global;
 
 fn continues_name(byte: u8) -> bool
@@ -158,23 +158,10 @@ fn end_of(bytes: &[u8], from: usize) -> Option<Token>
     })
 }
 
-fn said_of(bytes: &[u8]) -> Option<CommentKind>
-    ensures { IsCommentKindOf bytes.now result }
-{
-    match bytes {
-        b"<!--$-->" => Some(CommentKind::Complete),
-        b"<!--$?-->" => Some(CommentKind::Pending),
-        b"<!--$!-->" => Some(CommentKind::Client),
-        b"<!--/$-->" => Some(CommentKind::End),
-        b"<!-- -->" => Some(CommentKind::Space),
-        _ => None,
-    }
-}
-
 fn comment_of(bytes: &[u8], from: usize) -> Option<Token>
     ensures { IsCommentOf bytes.now from result }
 {
-    let which = said_of(bytes)?;
+    let which = comment(bytes)?;
     Some(Token::Comment { which, from })
 }
 
