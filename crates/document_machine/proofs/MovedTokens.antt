@@ -2,7 +2,7 @@
 use Rattle.std.proofs.Common.{◌≡◌, ℕ, ◌+◌, Bool, false, List, [], ◌∷◌, ◌++◌, length, refl, sym, ◌∙◌, ap, subst}
 use Rattle.html_read.specs.declared.token.Token.{Token}
 use Rattle.html_read.specs.declared.token.Token.TheVariants as tok
-use Rattle.html_read.specs.Tokens.{IsTok, AreTokensFrom, MayFollow, spelling, spellings, is_text, place_of}
+use Rattle.html_read.specs.Tokens.{IsToken, AreTokensFrom, MayFollow, spelling, spellings, is_text, place_of}
 use Rattle.html_read.specs.Faults.{ends_in_text}
 use Rattle.document_machine.specs.Running.{PageState}
 use Rattle.document_machine.specs.Documents.{Step, starts, ends, stands, says, marks, runs, Steps}
@@ -17,7 +17,7 @@ moved place (tok.Script body from) = tok.Script body place
 
 -- The token is the same but for its place.
 pub record IsMoved (place : ℕ) (t : Token) : Type 0 where
-  pub is_tok : IsTok t → IsTok (moved place t)
+  pub is_tok : IsToken t → IsToken (moved place t)
   pub spelled : spelling (moved place t) ≡ spelling t
   pub text : is_text (moved place t) ≡ is_text t
   pub place_is : place_of (moved place t) ≡ place
@@ -59,7 +59,7 @@ placed_ends place after (t ∷ ts) =
 -- What may be tokens one after the other, their places apart.
 abbrev pub MayBeTokens : Bool → List Token → Type 0
 MayBeTokens after [] = Unit {0}
-MayBeTokens after (t ∷ ts) = IsTok t × MayFollow after (is_text t) × MayBeTokens (is_text t) ts
+MayBeTokens after (t ∷ ts) = IsToken t × MayFollow after (is_text t) × MayBeTokens (is_text t) ts
 
 pub may_be_tokens : (place : ℕ) (after : Bool) (toks : List Token) → AreTokensFrom place after toks → MayBeTokens after toks
 may_be_tokens place after [] h = tt

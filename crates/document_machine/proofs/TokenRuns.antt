@@ -4,7 +4,7 @@ use Rattle.std.specs.Str.{IsUtf8}
 use Rattle.std.proofs.lemmas.Bool.{cases_Bool, true≢false}
 use Rattle.std.proofs.lemmas.List.Concat.{flat_map-append}
 use Rattle.html_read.specs.declared.token.Token.{Token}
-use Rattle.html_read.specs.Tokens.{IsTok, AreTokens, AreTokensFrom, MayFollow, Tokenizes, spelling, spellings, is_text}
+use Rattle.html_read.specs.Tokens.{IsToken, AreTokens, AreTokensFrom, MayFollow, Tokenizes, spelling, spellings, is_text}
 use Rattle.html_read.specs.Faults.{Splits, ends_in_text}
 use Rattle.document_machine.specs.Running.{PageState}
 use Rattle.document_machine.specs.Documents.{Steps, IsTextAtEnd, Runs, LeavesNoRest}
@@ -16,7 +16,7 @@ pub nothing_true : false ≡ true → ⊥
 nothing_true e = true≢false (sym e)
 
 -- One token by itself.
-one_token : (bytes : List ℕ) (t : Token) → IsTok t → bytes ≡ spelling t → Tokenizes bytes (moved 0 t ∷ [])
+one_token : (bytes : List ℕ) (t : Token) → IsToken t → bytes ≡ spelling t → Tokenizes bytes (moved 0 t ∷ [])
 one_token bytes t h e =
     let m : IsMoved 0 t = is_moved 0 t in
     record { spelled = e ∙ (sym m.spelled ∙ sym (append-nil (spelling (moved 0 t)))); tokens = (m.is_tok h, m.place_is, tt, tt) }
@@ -24,7 +24,7 @@ one_token bytes t h e =
 pub no_list : (t : Token) (ts : List Token) → t ∷ ts ≡ [] → ⊥
 no_list t ts e = cc
 
-pub no_empty_token : TokenLaws → (t : Token) → IsTok t → [] ≢ spelling t
+pub no_empty_token : TokenLaws → (t : Token) → IsToken t → [] ≢ spelling t
 no_empty_token laws t h e = no_list (moved 0 t) [] (laws.one [] (moved 0 t ∷ []) [] (one_token [] t h e) (record { spelled = refl; tokens = tt }))
 
 pub same_last : TokenLaws → (rest : List ℕ) (a b : List Token) → IsTextAtEnd rest a → IsTextAtEnd rest b → placed 0 a ≡ placed 0 b
@@ -61,7 +61,7 @@ pub record EndsInText (place : ℕ) (after : Bool) (toks : List Token) : Type 0 
   pub last : Token
   pub are : toks ≡ front ++ last ∷ []
   pub tokens : AreTokensFrom place after front
-  pub is_tok : IsTok last
+  pub is_tok : IsToken last
   pub text : is_text last ≡ true
   pub before : ends_in_text after front ≡ false
 

@@ -9,8 +9,8 @@ use Rattle.dom_forest.specs.declared.node.Mark.TheVariants.{Complete, Pending, C
 use Rattle.dom_forest.specs.declared.node.NewNode.{NewNode}
 use Rattle.dom_forest.specs.declared.node.NewNode.TheVariants.{Element}
 use Rattle.dom_forest.specs.declared.node.NodeId.{NodeId}
-use Rattle.fizz_instructions.specs.Sending.{none_sent}
-use Rattle.fizz_instructions.specs.declared.instruction.Sent.{Sent}
+use Rattle.fizz_instructions.specs.Sending.{no_function_sent}
+use Rattle.fizz_instructions.specs.declared.instruction.SentFunctions.{SentFunctions}
 use Rattle.fizz_instructions.specs.declared.instruction.Instruction.{Instruction}
 use Rattle.fizz_instructions.specs.declared.instruction.Instruction.TheVariants as instruction
 use Rattle.document_machine.specs.declared.building.OpenElement.{OpenElement}
@@ -21,14 +21,14 @@ use Rattle.document_machine.specs.Edits.{Edited, complete_boundary, fill_placeho
 pub record PageState : Type 0 where
   pub dom : DomState
   pub opened : List OpenElement
-  pub known : Sent
+  pub known : SentFunctions
 
 -- where a page begins
 abbrev pub at_first : PageState
-at_first = record { dom = nothing; opened = []; known = none_sent }
+at_first = record { dom = nothing; opened = []; known = no_function_sent }
 
 -- where a resumption begins: on a document, with some functions known
-abbrev pub on_document : DomState → Sent → PageState
+abbrev pub on_document : DomState → SentFunctions → PageState
 on_document dom known = record { dom = dom; opened = []; known = known }
 
 abbrev pub innermost : List OpenElement → Option NodeId

@@ -2,7 +2,7 @@
 use Rattle.std.proofs.Common.{◌≡◌, ◌≢◌, ℕ, ◌-◌, ◌<◌, ◌≤◌, List, [], ◌∷◌, ◌++◌, drop, length, refl, sym, ◌∙◌, ap, arith, append-nil, length-drop}
 use Rattle.std.specs.Str.{IsUtf8}
 use Rattle.std.proofs.lemmas.List.{nil_from_length}
-use Rattle.html_names.specs.JsStrings.{js_string, BeginsNoString, IsStringAtFront}
+use Rattle.html_names.specs.JsStrings.{js_string, BeginsNoString, BeginsWithString}
 use Rattle.html_names.proofs.JsReading.{one_string}
 use Rattle.html_names.proofs.Utf8.{utf8_ascii}
 use Rattle.fizz_instructions.specs.Bodies.{IsInstruction, arguments_of, digest_argument, function_of, id_of}
@@ -35,20 +35,20 @@ pub no_digest_string : (a s : List ℕ) → a ≡ 44 ∷ s → BeginsNoString s 
 no_digest_string a s is none [] u e = let f : 44 ∷ s ≡ [] = sym is ∙ e in cc
 no_digest_string a s is none (b ∷ bs) u e = none (b ∷ bs) [] u (string_is a s b bs is e)
 
-same_digest : (a s text : List ℕ) (len b : ℕ) (bs : List ℕ) → a ≡ 44 ∷ s → IsStringAtFront s text len → IsUtf8 (b ∷ bs) → a ≡ 44 ∷ js_string (b ∷ bs) → (text ≡ b ∷ bs) × (drop len s ≡ [])
+same_digest : (a s text : List ℕ) (len b : ℕ) (bs : List ℕ) → a ≡ 44 ∷ s → BeginsWithString s text len → IsUtf8 (b ∷ bs) → a ≡ 44 ∷ js_string (b ∷ bs) → (text ≡ b ∷ bs) × (drop len s ≡ [])
 same_digest a s text len b bs is front u e = one_string text (b ∷ bs) (drop len s) [] front.utf8 u (sym front.is ∙ string_is a s b bs is e)
 
-pub no_empty_digest : (a s text : List ℕ) (len : ℕ) → a ≡ 44 ∷ s → IsStringAtFront s text len → text ≡ [] → (digest : List ℕ) → IsUtf8 digest → a ≢ digest_argument digest
+pub no_empty_digest : (a s text : List ℕ) (len : ℕ) → a ≡ 44 ∷ s → BeginsWithString s text len → text ≡ [] → (digest : List ℕ) → IsUtf8 digest → a ≢ digest_argument digest
 no_empty_digest a s text len is front none [] u e = let f : 44 ∷ s ≡ [] = sym is ∙ e in cc
 no_empty_digest a s text len is front none (b ∷ bs) u e = let f : [] ≡ b ∷ bs = sym none ∙ (same_digest a s text len b bs is front u e).0 in cc
 
-pub no_longer_digest : (a s text : List ℕ) (len : ℕ) → a ≡ 44 ∷ s → IsStringAtFront s text len → len < length s → (digest : List ℕ) → IsUtf8 digest → a ≢ digest_argument digest
+pub no_longer_digest : (a s text : List ℕ) (len : ℕ) → a ≡ 44 ∷ s → BeginsWithString s text len → len < length s → (digest : List ℕ) → IsUtf8 digest → a ≢ digest_argument digest
 no_longer_digest a s text len is front more [] u e = let f : 44 ∷ s ≡ [] = sym is ∙ e in cc
 no_longer_digest a s text len is front more (b ∷ bs) u e =
     let size : length s - len ≡ 0 = sym (length-drop len s) ∙ ap length ((same_digest a s text len b bs is front u e).1) in
     omega arith
 
-pub digest_is : (a s text : List ℕ) (len : ℕ) → a ≡ 44 ∷ s → IsStringAtFront s text len → text ≢ [] → length s ≤ len → a ≡ digest_argument text
+pub digest_is : (a s text : List ℕ) (len : ℕ) → a ≡ 44 ∷ s → BeginsWithString s text len → text ≢ [] → length s ≤ len → a ≡ digest_argument text
 digest_is a s [] len is front some whole = absurd (some refl)
 digest_is a s (b ∷ bs) len is front some whole =
     let size : length s - len ≡ 0 = omega arith in

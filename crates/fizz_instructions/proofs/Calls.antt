@@ -10,7 +10,7 @@ use Rattle.fizz_instructions.specs.Reading.{AreArgumentsOf, AreNoArguments, IsBo
 use Rattle.fizz_instructions.specs.declared.functions.Function.{Function}
 use Rattle.fizz_instructions.specs.declared.functions.Function.TheVariants.{CompleteBoundary, CompleteSegment, ClientRenderBoundary}
 use Rattle.fizz_instructions.specs.declared.instruction.Instruction.{Instruction}
-use Rattle.fizz_instructions.specs.declared.instruction.Sent.{Sent}
+use Rattle.fizz_instructions.specs.declared.instruction.SentFunctions.{SentFunctions}
 use Rattle.fizz_instructions.specs.Sending.{has}
 use Rattle.html_names.proofs.JsReading.{apart_bools}
 use Rattle.fizz_instructions.proofs.Arguments.{one_instruction}
@@ -148,15 +148,15 @@ pub one_body_of : (prefix body : List ℕ) (i j : Instruction) (a b : Bool) → 
 one_body_of prefix body i j a b p u v = one_body prefix i j a b p u.valid v.valid (sym u.is ∙ v.is)
 
 -- A reader that doesn't know the function of a body takes no instruction from it.
-pub not_said : (prefix body : List ℕ) (known : Sent) (i j : Instruction) → IsUtf8 prefix → IsBodyOf prefix body i false → has known (function_of i) ≡ false → Says prefix body known j → ⊥
+pub not_said : (prefix body : List ℕ) (known : SentFunctions) (i j : Instruction) → IsUtf8 prefix → IsBodyOf prefix body i false → has known (function_of i) ≡ false → Says prefix body known j → ⊥
 not_said prefix body known i j p is unknown says =
     let same : (i ≡ j) × (false ≡ says.defines) = one_body_of prefix body i j false says.defines p is says.body_is in
     apart_bools (has known (function_of i)) (ap (λ k. has known (function_of k)) same.0 ∙ says.callable (sym same.1)) unknown
 
-pub only_said : (prefix body : List ℕ) (known : Sent) (i j : Instruction) (defines : Bool) → IsUtf8 prefix → IsBodyOf prefix body i defines → Says prefix body known j → i ≡ j
+pub only_said : (prefix body : List ℕ) (known : SentFunctions) (i j : Instruction) (defines : Bool) → IsUtf8 prefix → IsBodyOf prefix body i defines → Says prefix body known j → i ≡ j
 only_said prefix body known i j defines p is says = (one_body_of prefix body i j defines says.defines p is says.body_is).0
 
-pub none_said : (prefix body : List ℕ) (known : Sent) (j : Instruction) → IsNoBody prefix body → Says prefix body known j → ⊥
+pub none_said : (prefix body : List ℕ) (known : SentFunctions) (j : Instruction) → IsNoBody prefix body → Says prefix body known j → ⊥
 none_said prefix body known j none says = none j says.defines says.body_is
 
 when_not : (b : Bool) → not b ≡ false → b ≡ true
@@ -164,7 +164,7 @@ when_not true e = refl
 when_not false e = cc
 
 -- The body that is written after some functions says its instruction to a reader that knows them.
-pub reads_back : (prefix : List ℕ) (i : Instruction) (sent : Sent) → IsInstruction i → Says prefix (body_of prefix i (not (has sent (function_of i)))) sent i
+pub reads_back : (prefix : List ℕ) (i : Instruction) (sent : SentFunctions) → IsInstruction i → Says prefix (body_of prefix i (not (has sent (function_of i)))) sent i
 reads_back prefix i sent v = record {
   defines = not (has sent (function_of i));
   body_is = record { valid = v; is = refl };

@@ -4,7 +4,7 @@ use Rattle.std.specs.Option.{MatchOption}
 use Rattle.std.specs.Str.{IsUtf8}
 use Rattle.std.proofs.lemmas.Str.{IsUtf8-append}
 use Rattle.fizz_text.specs.Hexadecimal.{hexadecimal}
-use Rattle.html_names.specs.JsStrings.{js_string, BeginsNoString, IsStringAtFront}
+use Rattle.html_names.specs.JsStrings.{js_string, BeginsNoString, BeginsWithString}
 use Rattle.html_names.proofs.JsReading.{one_string}
 use Rattle.fizz_instructions.specs.Bodies.{id_of}
 use Rattle.fizz_instructions.specs.Reading.{AreIds, AreNoIds, BeginsNoId, BeginsWithId}
@@ -28,11 +28,11 @@ one_id prefix mark m n x y p u e =
 pub no_string_no_id : (prefix mark bytes : List ℕ) → IsUtf8 prefix → IsUtf8 mark → BeginsNoString bytes → BeginsNoId prefix mark bytes
 no_string_no_id prefix mark bytes p u none n more h = none (id_of prefix mark n) more (id_utf8 prefix mark n p u) h.is
 
-pub other_string_no_id : (prefix mark bytes id : List ℕ) (len : ℕ) → IsUtf8 prefix → IsUtf8 mark → IsStringAtFront bytes id len → ((n : ℕ) → n < 2 ^ 32 → id ≢ id_of prefix mark n) → BeginsNoId prefix mark bytes
+pub other_string_no_id : (prefix mark bytes id : List ℕ) (len : ℕ) → IsUtf8 prefix → IsUtf8 mark → BeginsWithString bytes id len → ((n : ℕ) → n < 2 ^ 32 → id ≢ id_of prefix mark n) → BeginsNoId prefix mark bytes
 other_string_no_id prefix mark bytes id len p u front none n more h =
     none n h.fits ((one_string id (id_of prefix mark n) (drop len bytes) more front.utf8 (id_utf8 prefix mark n p u) (sym front.is ∙ h.is)).0)
 
-pub id_at_front : (prefix mark bytes id : List ℕ) (len n : ℕ) → IsStringAtFront bytes id len → n < 2 ^ 32 → id ≡ id_of prefix mark n → BeginsWithId prefix mark bytes n (drop len bytes)
+pub id_at_front : (prefix mark bytes id : List ℕ) (len n : ℕ) → BeginsWithString bytes id len → n < 2 ^ 32 → id ≡ id_of prefix mark n → BeginsWithId prefix mark bytes n (drop len bytes)
 id_at_front prefix mark bytes id len n front small is = record { fits = small; is = front.is ∙ ap (λ s. js_string s ++ drop len bytes) is }
 
 -- The parts of an id

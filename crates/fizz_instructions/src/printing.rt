@@ -6,7 +6,7 @@ ghost use Rattle.html_names.specs.JsStrings.{js_string};
 ghost use Rattle.fizz_instructions.specs.Bodies.{arguments_of, call_of, digest_argument, function_of, id_of, script_of};
 ghost use Rattle.fizz_instructions.specs.Sending.{has, with_function};
 
-use crate::instruction::{Instruction, Sent};
+use crate::instruction::{Instruction, SentFunctions};
 use fizz_text::{OutOfMemory, Text, hex_of};
 use html_names::push_js_string;
 use std::alloc::Global;
@@ -19,7 +19,7 @@ pub fn push_script(
     out: &mut Vec<u8>,
     instruction: &Instruction,
     prefix: &Text,
-    sent: &mut Sent,
+    sent: &mut SentFunctions,
 ) -> Result<(), OutOfMemory>
     ensures appended { OnOk result (out.new.items ≡ out.old.items ++ script_of prefix.now instruction.now (not (has sent.old (function_of instruction.now)))) }
     ensures sent { OnOk result (sent.new ≡ with_function sent.old (function_of instruction.now)) }

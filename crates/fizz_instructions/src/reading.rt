@@ -3,7 +3,7 @@
 ghost use Rattle.std.specs.Prelude.{◌≡◌, ◌≢◌, ◌++◌, ◌<◌, ◌^◌, if◌then◌else◌, ℕ, List, [], true, Some, IfOk, IfErr, OnErr, MatchOption};
 ghost use Rattle.std.specs.Str.{IsUtf8};
 ghost use Rattle.fizz_text.specs.Hexadecimal.{hexadecimal};
-ghost use Rattle.html_names.specs.JsStrings.{BeginsNoString, IsStringAtFront};
+ghost use Rattle.html_names.specs.JsStrings.{BeginsNoString, BeginsWithString};
 ghost use Rattle.fizz_instructions.specs.Bodies.{called, digest_argument, function_of, id_of};
 ghost use Rattle.fizz_instructions.specs.Functions.{text_of, name_of};
 ghost use Rattle.fizz_instructions.specs.Sending.{with_function};
@@ -14,7 +14,7 @@ ghost use Rattle.fizz_instructions.specs.declared.instruction.Instruction.{Instr
 ghost use Rattle.fizz_instructions.specs.declared.reading.BodyFault.TheVariants.{OutOfMemory as Memory};
 
 use crate::functions::Function;
-use crate::instruction::{Instruction, Sent};
+use crate::instruction::{Instruction, SentFunctions};
 use fizz_text::{OutOfMemory, Text, hex_of};
 use html_names::read_js_string;
 use std::alloc::Global;
@@ -44,7 +44,7 @@ pub fn read_script_body(
     alloc: Global,
     body: &[u8],
     prefix: &Text,
-    known: &mut Sent,
+    known: &mut SentFunctions,
 ) -> Result<Instruction, BodyFault>
     ensures read { IfOk result (λ i. Says prefix.now body.now known.old i) }
     ensures learned { IfOk result (λ i. known.new ≡ with_function known.old (function_of i)) }
@@ -245,7 +245,7 @@ fn read_id<'a>(
 }
 
 fn read_string(alloc: Global, bytes: &[u8]) -> Result<Option<(Vec<u8>, usize)>, OutOfMemory>
-    ensures { IfOk result (λ found. MatchOption found (BeginsNoString bytes.now) (λ p. IsStringAtFront bytes.now p.0.items p.1)) }
+    ensures { IfOk result (λ found. MatchOption found (BeginsNoString bytes.now) (λ p. BeginsWithString bytes.now p.0.items p.1)) }
 {
     match read_js_string(alloc, bytes) {
         Ok(found) => Ok(found),

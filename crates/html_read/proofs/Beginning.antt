@@ -5,12 +5,12 @@ use Rattle.std.proofs.lemmas.Bool.{or_cases}
 use Rattle.std.proofs.lemmas.Slice.Eq.{bytes_eq-Decides}
 use Rattle.std.proofs.lemmas.Str.{IsUtf8-nil}
 use Rattle.fizz_text.specs.declared.attribute.Attr.{Attr}
-use Rattle.html_names.specs.Escape.{escaped}
+use Rattle.html_names.specs.Escape.{escape_of}
 use Rattle.html_read.specs.declared.token.Token.TheVariants as toks
 use Rattle.html_read.specs.declared.place.Place.{Place}
 use Rattle.html_read.specs.declared.machine.Mode.{Mode}
 use Rattle.html_read.specs.declared.machine.Mode.TheVariants.{Text, Name, EndName, Comment, Script, Space, Attribute, Equals, Value, Close, Slash}
-use Rattle.html_names.specs.Printing.{written_attribute}
+use Rattle.html_names.specs.Printing.{attribute_spelling}
 use Rattle.html_read.specs.Tokens.{script_end}
 use Rattle.html_read.specs.Faults.{IsBegun}
 use Rattle.html_read.specs.Machine.{is_word, tag_words, start_words, comment_words}
@@ -25,7 +25,7 @@ text_begun : (p : Place) (seen : List ℕ) → HasRun 0 p seen → (seen ≡ [])
 text_begun p [] h = inl refl
 text_begun p (s ∷ seen) h =
     let c : Completes (s ∷ seen) = run_completes 0 p (s ∷ seen) h in
-    let some : c.text ≢ [] = λ e. append_some [] (seen ++ c.more) s (c.is ∙ ap escaped e) in
+    let some : c.text ≢ [] = λ e. append_some [] (seen ++ c.more) s (c.is ∙ ap escape_of e) in
     inr (c.more, toks.Text c.text 0, (some, c.utf8), c.is, inl refl)
 
 -- A start tag whose front is there.
@@ -76,20 +76,20 @@ script_begun seen h = (script_end, toks.Script h.body 0, h.fine, ap (λ s. s ++ 
 space_begun : (v : Bool) (seen : List ℕ) → InSpace v seen → IsBegun seen
 space_begun v seen h =
     let a : Attr = record { name = codes "hidden"; value = None } in
-    start_begun v (h.front ++ written_attribute a) seen (codes "hidden>") (more_attributes v h.front a h.tag ((refl, refl), refl))
+    start_begun v (h.front ++ attribute_spelling a) seen (codes "hidden>") (more_attributes v h.front a h.tag ((refl, refl), refl))
     (ap (λ s. s ++ codes "hidden>") h.is ∙ (append_assoc h.front (32 ∷ []) (codes "hidden>") ∙ sym (append_assoc h.front (codes " hidden") (codes ">")))) (append_some [] (codes "idden>") 104)
 
 attribute_begun : (v : Bool) (start : ℕ) (seen : List ℕ) → InAttribute v start seen → IsBegun seen
 attribute_begun v start seen h =
     let a : Attr = record { name = h.name; value = Some [] } in
-    start_begun v (h.front ++ written_attribute a) seen (codes "=\"\">") (more_attributes v h.front a h.tag (h.named, IsUtf8-nil))
+    start_begun v (h.front ++ attribute_spelling a) seen (codes "=\"\">") (more_attributes v h.front a h.tag (h.named, IsUtf8-nil))
     (ap (λ s. s ++ codes "=\"\">") h.is ∙ (append_assoc h.front (32 ∷ h.name) (codes "=\"\">") ∙ (ap (λ x. h.front ++ x) (sym (append_assoc (32 ∷ h.name) (codes "=\"\"") (codes ">"))) ∙ sym (append_assoc h.front (32 ∷ h.name ++ codes "=\"\"") (codes ">")))))
     (append_some [] (codes "\"\">") 61)
 
 equals_begun : (v : Bool) (seen : List ℕ) → InEquals v seen → IsBegun seen
 equals_begun v seen h =
     let a : Attr = record { name = h.name; value = Some [] } in
-    start_begun v (h.front ++ written_attribute a) seen (codes "\"\">") (more_attributes v h.front a h.tag (h.named, IsUtf8-nil))
+    start_begun v (h.front ++ attribute_spelling a) seen (codes "\"\">") (more_attributes v h.front a h.tag (h.named, IsUtf8-nil))
     (ap (λ s. s ++ codes "\"\">") h.is ∙ (append_assoc h.front (32 ∷ h.name ++ 61 ∷ []) (codes "\"\">") ∙ (ap (λ x. h.front ++ x) (append_assoc (32 ∷ h.name) (61 ∷ []) (codes "\"\">"))
     ∙ (ap (λ x. h.front ++ x) (sym (append_assoc (32 ∷ h.name) (codes "=\"\"") (codes ">"))) ∙ sym (append_assoc h.front (32 ∷ h.name ++ codes "=\"\"") (codes ">"))))))
     (append_some [] (codes "\">") 34)
@@ -99,15 +99,15 @@ value_begun v p seen h =
     let c : Completes h.run = run_completes (length (opening h.front h.name)) p h.run h.has in
     let a : Attr = record { name = h.name; value = Some c.text } in
     let lead : List ℕ = 32 ∷ h.name ++ 61 ∷ 34 ∷ [] in
-    let written : lead ++ (escaped c.text ++ codes "\"") ≡ written_attribute a = append_assoc (32 ∷ h.name) (codes "=\"") (escaped c.text ++ codes "\"") in
-    start_begun v (h.front ++ written_attribute a) seen (c.more ++ codes "\">") (more_attributes v h.front a h.tag (h.named, c.utf8))
-    (ap (λ s. s ++ (c.more ++ codes "\">")) h.is ∙ (append_assoc (opening h.front h.name) h.run (c.more ++ codes "\">") ∙ (ap (λ x. opening h.front h.name ++ x) (sym (append_assoc h.run c.more (codes "\">")) ∙ (ap (λ x. x ++ codes "\">") c.is ∙ sym (append_assoc (escaped c.text) (codes "\"") (codes ">"))))
-    ∙ (append_assoc h.front lead ((escaped c.text ++ codes "\"") ++ codes ">") ∙ (ap (λ x. h.front ++ x) (sym (append_assoc lead (escaped c.text ++ codes "\"") (codes ">")) ∙ ap (λ x. x ++ codes ">") written)
-    ∙ sym (append_assoc h.front (written_attribute a) (codes ">"))))))) (append_some c.more (codes ">") 34)
+    let written : lead ++ (escape_of c.text ++ codes "\"") ≡ attribute_spelling a = append_assoc (32 ∷ h.name) (codes "=\"") (escape_of c.text ++ codes "\"") in
+    start_begun v (h.front ++ attribute_spelling a) seen (c.more ++ codes "\">") (more_attributes v h.front a h.tag (h.named, c.utf8))
+    (ap (λ s. s ++ (c.more ++ codes "\">")) h.is ∙ (append_assoc (opening h.front h.name) h.run (c.more ++ codes "\">") ∙ (ap (λ x. opening h.front h.name ++ x) (sym (append_assoc h.run c.more (codes "\">")) ∙ (ap (λ x. x ++ codes "\">") c.is ∙ sym (append_assoc (escape_of c.text) (codes "\"") (codes ">"))))
+    ∙ (append_assoc h.front lead ((escape_of c.text ++ codes "\"") ++ codes ">") ∙ (ap (λ x. h.front ++ x) (sym (append_assoc lead (escape_of c.text ++ codes "\"") (codes ">")) ∙ ap (λ x. x ++ codes ">") written)
+    ∙ sym (append_assoc h.front (attribute_spelling a) (codes ">"))))))) (append_some c.more (codes ">") 34)
 
 close_begun : (v : Bool) (seen : List ℕ) → InClose v seen → IsBegun seen
 close_begun v seen h =
-    start_begun v (h.front ++ written_attribute h.attribute) seen (codes ">") (more_attributes v h.front h.attribute h.tag h.fine) (ap (λ s. s ++ codes ">") h.is) (append_some [] [] 62)
+    start_begun v (h.front ++ attribute_spelling h.attribute) seen (codes ">") (more_attributes v h.front h.attribute h.tag h.fine) (ap (λ s. s ++ codes ">") h.is) (append_some [] [] 62)
 
 slash_begun : (seen : List ℕ) → InSlash seen → IsBegun seen
 slash_begun seen h = (

@@ -8,13 +8,13 @@ use Rattle.std.proofs.lemmas.Bool.Decides.{Decides-eqb}
 use Rattle.std.proofs.lemmas.List.{take_at, drop_at, drop-drop}
 use Rattle.std.proofs.lemmas.Slice.Eq.{bytes_eq-Decides, starts_is}
 use Rattle.fizz_text.specs.declared.attribute.Attr.{Attr}
-use Rattle.html_names.specs.Escape.{escaped, IsFirstBad}
+use Rattle.html_names.specs.Escape.{escape_of, IsFirstBad}
 use Rattle.html_names.proofs.Unescaping.{clean_when_escaped}
 use Rattle.html_names.proofs.Utf8.{AreAscii, utf8_ascii}
 use Rattle.html_read.specs.declared.token.Token.{Token}
 use Rattle.html_read.specs.declared.token.Token.TheVariants.{Start, End, Void, Text, Comment, Script}
 use Rattle.html_read.specs.Names.{is_letter, is_digit, continues_attribute_name, IsTagName, IsAttributeName}
-use Rattle.html_names.specs.Printing.{written_value, written_attribute, written_attributes, tag_front}
+use Rattle.html_names.specs.Printing.{value_spelling, attribute_spelling, attributes_spelling, tag_prefix}
 use Rattle.html_read.specs.Tokens.{HasValue, IsAttribute, AreAttributes}
 use Rattle.html_read.specs.Faults.{begins_tag}
 use Rattle.html_read.specs.Building.{front_len, IsTokenOf, EndsAttribute, EndsTag, IsAttributeOf, AreAttributesOf, IsTextTokenOf, IsEndOf, IsCommentOf, IsScriptOf, IsTagOf}
@@ -23,7 +23,7 @@ use Rattle.html_read.proofs.Quotes.{no_quote, all_weaken, escaped_no_quote}
 use Rattle.html_read.proofs.Standing.{escaped_no_tag}
 
 -- An escaped text has no bad place.
-pub no_bad : (text bytes : List ℕ) (at : ℕ) → bytes ≡ escaped text → IsFirstBad bytes at → ⊥
+pub no_bad : (text bytes : List ℕ) (at : ℕ) → bytes ≡ escape_of text → IsFirstBad bytes at → ⊥
 no_bad text bytes at e f = none_true (sym (clean_when_escaped text bytes (sym e) at) ∙ f.here)
 
 -- The front that passes a test ends at the first byte that doesn't.
@@ -74,22 +74,22 @@ record Stops (bytes : List ℕ) : Type 0 where
   is : bytes ≡ stop ∷ more
   ends : continues_attribute_name stop ≡ false
 
-value_stops : (value : Option (List ℕ)) (more : List ℕ) → EndsAttribute more → Stops (written_value value ++ more)
+value_stops : (value : Option (List ℕ)) (more : List ℕ) → EndsAttribute more → Stops (value_spelling value ++ more)
 value_stops None [] h = absurd h
 value_stops None (b ∷ bs) h = record { stop = b; more = bs; is = refl; ends = h.0 }
 value_stops (Some text) more h = record { stop = 61; more = _; is = refl; ends = refl }
 
-pub attribute_cut : (name : List ℕ) (value : Option (List ℕ)) (more bytes named : List ℕ) (n : ℕ) → IsAttributeName name → EndsAttribute more → bytes ≡ 32 ∷ name ++ written_value value ++ more
-    → named ≡ drop 1 bytes → n ≡ front_len continues_attribute_name named → Cut named n name (written_value value ++ more)
+pub attribute_cut : (name : List ℕ) (value : Option (List ℕ)) (more bytes named : List ℕ) (n : ℕ) → IsAttributeName name → EndsAttribute more → bytes ≡ 32 ∷ name ++ value_spelling value ++ more
+    → named ≡ drop 1 bytes → n ≡ front_len continues_attribute_name named → Cut named n name (value_spelling value ++ more)
 attribute_cut name value more bytes named n h ends e d is =
-    let s : Stops (written_value value ++ more) = value_stops value more ends in
-    let split : named ≡ name ++ s.stop ∷ s.more = d ∙ (ap (drop 1) e ∙ (append_assoc name (written_value value) more ∙ ap (λ x. name ++ x) s.is)) in
+    let s : Stops (value_spelling value ++ more) = value_stops value more ends in
+    let split : named ≡ name ++ s.stop ∷ s.more = d ∙ (ap (drop 1) e ∙ (append_assoc name (value_spelling value) more ∙ ap (λ x. name ++ x) s.is)) in
     subst (Cut named n name) (sym s.is) (cut_at name s.stop s.more named n (all_of_attribute name h) s.ends split is)
 
 -- The attribute has no value where no quote follows its name.
-pub plain_attribute : (name : List ℕ) (value : Option (List ℕ)) (more bytes rest found : List ℕ) → EndsAttribute more → bytes ≡ 32 ∷ name ++ written_value value ++ more → rest ≡ written_value value ++ more
+pub plain_attribute : (name : List ℕ) (value : Option (List ℕ)) (more bytes rest found : List ℕ) → EndsAttribute more → bytes ≡ 32 ∷ name ++ value_spelling value ++ more → rest ≡ value_spelling value ++ more
     → found ≡ name → pointwise nat_eq (take 2 rest) (61 ∷ 34 ∷ []) ≡ false
-    → ◌≡◌ {A = Option (Attr × ℕ)} (Some (record { name = found; value = None }, length bytes - length rest)) (Some (record { name = name; value = value }, length (32 ∷ name ++ written_value value)))
+    → ◌≡◌ {A = Option (Attr × ℕ)} (Some (record { name = found; value = None }, length bytes - length rest)) (Some (record { name = name; value = value }, length (32 ∷ name ++ value_spelling value)))
 plain_attribute name None more bytes rest found ends e r f p =
     let len : length bytes - length rest ≡ length (32 ∷ name ++ []) =
     omega (arith, ap length e, ap length r, length-append (32 ∷ name ++ []) more) in
@@ -100,45 +100,45 @@ plain_attribute name (Some text) more bytes rest found ends e r f p = absurd (no
 pub record Valued (value : Option (List ℕ)) (more quoted : List ℕ) : Type 0 where
   pub text : List ℕ
   pub is : value ≡ Some text
-  pub split : quoted ≡ escaped text ++ 34 ∷ more
+  pub split : quoted ≡ escape_of text ++ 34 ∷ more
 
 heads_same : (x y : ℕ) (xs ys : List ℕ) → x ∷ xs ≡ y ∷ ys → x ≡ y
 heads_same x y xs ys e = cc
 
-pub quoted_value : (value : Option (List ℕ)) (more rest quoted : List ℕ) → EndsAttribute more → rest ≡ written_value value ++ more → pointwise nat_eq (take 2 rest) (61 ∷ 34 ∷ []) ≡ true → quoted ≡ drop 2 rest
+pub quoted_value : (value : Option (List ℕ)) (more rest quoted : List ℕ) → EndsAttribute more → rest ≡ value_spelling value ++ more → pointwise nat_eq (take 2 rest) (61 ∷ 34 ∷ []) ≡ true → quoted ≡ drop 2 rest
     → Valued value more quoted
 quoted_value None [] rest quoted ends r p d = absurd ends
 quoted_value None (b ∷ bs) rest quoted ends r p d =
     let head : nat_eq b 61 ≡ true = (and_parts _ _ (sym (ap (λ x. pointwise nat_eq (take 2 x) (61 ∷ 34 ∷ [])) r) ∙ p)).0 in
     absurd (ends.1 (eqb-true b 61 head))
-quoted_value (Some text) more rest quoted ends r p d = record { text = text; is = refl; split = d ∙ (ap (drop 2) r ∙ append_assoc (escaped text) (34 ∷ []) more) }
+quoted_value (Some text) more rest quoted ends r p d = record { text = text; is = refl; split = d ∙ (ap (drop 2) r ∙ append_assoc (escape_of text) (34 ∷ []) more) }
 
-pub value_cut : (text more quoted : List ℕ) (n : ℕ) → quoted ≡ escaped text ++ 34 ∷ more → n ≡ front_len (λ b. not (b == 34)) quoted → (take n quoted ≡ escaped text) × (drop n quoted ≡ 34 ∷ more)
+pub value_cut : (text more quoted : List ℕ) (n : ℕ) → quoted ≡ escape_of text ++ 34 ∷ more → n ≡ front_len (λ b. not (b == 34)) quoted → (take n quoted ≡ escape_of text) × (drop n quoted ≡ 34 ∷ more)
 value_cut text more quoted n e is =
-    let len : length (escaped text) ≡ n = sym (is ∙ (ap (front_len no_quote) e ∙ front_len_at no_quote (escaped text) 34 more (escaped_no_quote text) refl)) in
-    (ap (take n) e ∙ take_at (escaped text) (34 ∷ more) n len, ap (drop n) e ∙ drop_at (escaped text) (34 ∷ more) n len)
+    let len : length (escape_of text) ≡ n = sym (is ∙ (ap (front_len no_quote) e ∙ front_len_at no_quote (escape_of text) 34 more (escaped_no_quote text) refl)) in
+    (ap (take n) e ∙ take_at (escape_of text) (34 ∷ more) n len, ap (drop n) e ∙ drop_at (escape_of text) (34 ∷ more) n len)
 
-pub valued_attribute : (name text more bytes found value left : List ℕ) → bytes ≡ 32 ∷ name ++ written_value (Some text) ++ more → found ≡ name → value ≡ text → left ≡ 34 ∷ more
-    → ◌≡◌ {A = Option (Attr × ℕ)} (Some (record { name = found; value = Some value }, length bytes - length left + 1)) (Some (record { name = name; value = Some text }, length (32 ∷ name ++ written_value (Some text))))
+pub valued_attribute : (name text more bytes found value left : List ℕ) → bytes ≡ 32 ∷ name ++ value_spelling (Some text) ++ more → found ≡ name → value ≡ text → left ≡ 34 ∷ more
+    → ◌≡◌ {A = Option (Attr × ℕ)} (Some (record { name = found; value = Some value }, length bytes - length left + 1)) (Some (record { name = name; value = Some text }, length (32 ∷ name ++ value_spelling (Some text))))
 valued_attribute name text more bytes found value left e f v l =
-    let len : length bytes - length left + 1 ≡ length (32 ∷ name ++ written_value (Some text)) =
-    omega (arith, ap length e, ap length l, length-append (32 ∷ name ++ written_value (Some text)) more, length-append name (written_value (Some text))) in
+    let len : length bytes - length left + 1 ≡ length (32 ∷ name ++ value_spelling (Some text)) =
+    omega (arith, ap length e, ap length l, length-append (32 ∷ name ++ value_spelling (Some text)) more, length-append name (value_spelling (Some text))) in
     (λ i. Some (record { name = f i; value = Some (v i) }, len i))
 
 -- The name of a tag.
 name_continues : (name : List ℕ) → is_name_word name ≡ true → list_all continues_attribute_name name ≡ true
 name_continues name h = all_weaken is_name_byte continues_attribute_name (λ b k. ⊎_elim (λ l. or_left (is_letter b) (is_digit b || b == 45) l) (λ d. or_right (is_letter b) (is_digit b || b == 45) (or_left (is_digit b) (b == 45) d)) (or_cases (is_letter b) (is_digit b) k)) name h
 
-attributes_stop : (attributes : List Attr) (tail : List ℕ) → EndsTag tail → Stops (written_attributes attributes ++ tail)
+attributes_stop : (attributes : List Attr) (tail : List ℕ) → EndsTag tail → Stops (attributes_spelling attributes ++ tail)
 attributes_stop [] [] h = absurd h.0
 attributes_stop [] (b ∷ bs) h = record { stop = b; more = bs; is = refl; ends = h.0.0 }
 attributes_stop (a ∷ rest) tail h = record { stop = 32; more = _; is = refl; ends = refl }
 
-pub tag_cut : (name : List ℕ) (attributes : List Attr) (tail bytes named : List ℕ) (n : ℕ) → IsTagName name → EndsTag tail → bytes ≡ tag_front name attributes ++ tail → named ≡ drop 1 bytes
-    → n ≡ front_len continues_attribute_name named → Cut named n name (written_attributes attributes ++ tail)
+pub tag_cut : (name : List ℕ) (attributes : List Attr) (tail bytes named : List ℕ) (n : ℕ) → IsTagName name → EndsTag tail → bytes ≡ tag_prefix name attributes ++ tail → named ≡ drop 1 bytes
+    → n ≡ front_len continues_attribute_name named → Cut named n name (attributes_spelling attributes ++ tail)
 tag_cut name attributes tail bytes named n t ends e d is =
-    let s : Stops (written_attributes attributes ++ tail) = attributes_stop attributes tail ends in
-    let split : named ≡ name ++ s.stop ∷ s.more = d ∙ (ap (drop 1) e ∙ (append_assoc name (written_attributes attributes) tail ∙ ap (λ x. name ++ x) s.is)) in
+    let s : Stops (attributes_spelling attributes ++ tail) = attributes_stop attributes tail ends in
+    let split : named ≡ name ++ s.stop ∷ s.more = d ∙ (ap (drop 1) e ∙ (append_assoc name (attributes_spelling attributes) tail ∙ ap (λ x. name ++ x) s.is)) in
     subst (Cut named n name) (sym s.is) (cut_at name s.stop s.more named n (name_continues name (tag_name_bytes name t)) s.ends split is)
 
 pub start_ends : EndsTag (codes ">")
@@ -165,11 +165,11 @@ tag_second : (name : List ℕ) (c : ℕ) (more tail : List ℕ) → begins_with_
 tag_second [] c more tail h n e = none_true h
 tag_second (b ∷ name) c more tail h n e = none_true (sym n ∙ (ap is_letter (sym (second b c 60 60 (name ++ more) tail e)) ∙ h))
 
-text_first : (text tail : List ℕ) → escaped text ≡ 60 ∷ tail → ⊥
-text_first text tail e = none_true (sym (escaped_no_tag text [] refl) ∙ (ap begins_tag (append-nil (escaped text)) ∙ ap begins_tag e))
+text_first : (text tail : List ℕ) → escape_of text ≡ 60 ∷ tail → ⊥
+text_first text tail e = none_true (sym (escaped_no_tag text [] refl) ∙ (ap begins_tag (append-nil (escape_of text)) ∙ ap begins_tag e))
 
-pub tag_at : (name : List ℕ) (attributes : List Attr) (tail more : List ℕ) (c : ℕ) → IsTagName name → is_letter c ≡ false → tag_front name attributes ++ tail ≡ 60 ∷ c ∷ more → ⊥
-tag_at name attributes tail more c t n e = tag_second name c (written_attributes attributes ++ tail) more (tag_name_letter name t) n (sym (append_assoc (60 ∷ name) (written_attributes attributes) tail) ∙ e)
+pub tag_at : (name : List ℕ) (attributes : List Attr) (tail more : List ℕ) (c : ℕ) → IsTagName name → is_letter c ≡ false → tag_prefix name attributes ++ tail ≡ 60 ∷ c ∷ more → ⊥
+tag_at name attributes tail more c t n e = tag_second name c (attributes_spelling attributes ++ tail) more (tag_name_letter name t) n (sym (append_assoc (60 ∷ name) (attributes_spelling attributes) tail) ∙ e)
 
 -- Each kind of token by its first bytes.
 pub text_branch : (bytes : List ℕ) (from : ℕ) (found : Option Token) → starts_with nat_eq bytes (codes "<") ≡ false → IsTextTokenOf bytes from found → IsTokenOf bytes from found
@@ -197,10 +197,10 @@ comment_branch bytes from found h is (Comment which place) t e p = is which e �
 comment_branch bytes from found h is (Script body place) t e p = absurd (apart_second 115 33 _ _ bytes (λ k. omega arith) e (prefix_is bytes (codes "<!") h))
 
 -- no tag is named `script`
-pub no_script_tag : (name : List ℕ) (attributes : List Attr) (tail more : List ℕ) → IsTagName name → EndsTag tail → tag_front name attributes ++ tail ≡ codes "<script>" ++ more → ⊥
+pub no_script_tag : (name : List ℕ) (attributes : List Attr) (tail more : List ℕ) → IsTagName name → EndsTag tail → tag_prefix name attributes ++ tail ≡ codes "<script>" ++ more → ⊥
 no_script_tag name attributes tail more t ends e =
-    let bytes : List ℕ = tag_front name attributes ++ tail in
-    let here : Cut (drop 1 bytes) (front_len continues_attribute_name (drop 1 bytes)) name (written_attributes attributes ++ tail) = tag_cut name attributes tail bytes (drop 1 bytes) _ t ends refl refl refl in
+    let bytes : List ℕ = tag_prefix name attributes ++ tail in
+    let here : Cut (drop 1 bytes) (front_len continues_attribute_name (drop 1 bytes)) name (attributes_spelling attributes ++ tail) = tag_cut name attributes tail bytes (drop 1 bytes) _ t ends refl refl refl in
     let there : Cut (drop 1 bytes) (front_len continues_attribute_name (drop 1 bytes)) (codes "script") (62 ∷ more) =
     cut_at (codes "script") 62 more (drop 1 bytes) (front_len continues_attribute_name (drop 1 bytes)) refl refl (ap (drop 1) e) refl in
     none_true (sym (tag_name_not_script name t) ∙ (bytes_eq-Decides name (codes "script")).1 (sym here.front ∙ there.front))
@@ -239,13 +239,13 @@ if_ok (Err e) P Q f h = tt
 -- The parts of an attribute.
 pub record Parts (a : Attr) (more name rest : List ℕ) : Type 0 where
   pub name_is : name ≡ a.name
-  pub rest_is : rest ≡ written_value a.value ++ more
+  pub rest_is : rest ≡ value_spelling a.value ++ more
   pub utf8 : IsUtf8 name
 
-pub attribute_parts : (a : Attr) (more bytes named name rest : List ℕ) (n : ℕ) → IsAttribute a → EndsAttribute more → bytes ≡ written_attribute a ++ more → named ≡ drop 1 bytes
+pub attribute_parts : (a : Attr) (more bytes named name rest : List ℕ) (n : ℕ) → IsAttribute a → EndsAttribute more → bytes ≡ attribute_spelling a ++ more → named ≡ drop 1 bytes
     → n ≡ front_len continues_attribute_name named → name ≡ take n named → rest ≡ drop n named → Parts a more name rest
 attribute_parts a more bytes named name rest n h ends e d is f b =
-    let cut : Cut named n a.name (written_value a.value ++ more) = attribute_cut a.name a.value more bytes named n h.0 ends e d is in
+    let cut : Cut named n a.name (value_spelling a.value ++ more) = attribute_cut a.name a.value more bytes named n h.0 ends e d is in
     let same : name ≡ a.name = f ∙ cut.front in
     record { name_is = same; rest_is = b ∙ cut.back; utf8 = subst IsUtf8 (sym same) (attribute_utf8 a.name h.0) }
 
@@ -254,38 +254,38 @@ pub record ValueParts (a : Attr) (more value left : List ℕ) : Type 0 where
   pub text : List ℕ
   pub is : a.value ≡ Some text
   pub utf8 : IsUtf8 text
-  pub value_is : value ≡ escaped text
+  pub value_is : value ≡ escape_of text
   pub left_is : left ≡ 34 ∷ more
 
 value_utf8 : (name : List ℕ) (value : Option (List ℕ)) (text : List ℕ) → HasValue name value → value ≡ Some text → IsUtf8 text
 value_utf8 name value text h e = let k : HasValue name (Some text) = subst (HasValue name) e h in k
 
-pub value_parts : (a : Attr) (more rest quoted value left : List ℕ) (n : ℕ) → IsAttribute a → EndsAttribute more → rest ≡ written_value a.value ++ more
+pub value_parts : (a : Attr) (more rest quoted value left : List ℕ) (n : ℕ) → IsAttribute a → EndsAttribute more → rest ≡ value_spelling a.value ++ more
     → pointwise nat_eq (take 2 rest) (61 ∷ 34 ∷ []) ≡ true → quoted ≡ drop 2 rest → n ≡ front_len (λ b. not (b == 34)) quoted → value ≡ take n quoted → left ≡ drop n quoted → ValueParts a more value left
 value_parts a more rest quoted value left n h ends r p d is f b =
     let v : Valued a.value more quoted = quoted_value a.value more rest quoted ends r p d in
-    let cut : (take n quoted ≡ escaped v.text) × (drop n quoted ≡ 34 ∷ more) = value_cut v.text more quoted n v.split is in
+    let cut : (take n quoted ≡ escape_of v.text) × (drop n quoted ≡ 34 ∷ more) = value_cut v.text more quoted n v.split is in
     record { text = v.text; is = v.is; utf8 = value_utf8 a.name a.value v.text h.1 v.is; value_is = f ∙ cut.0; left_is = b ∙ cut.1 }
 
-pub found_value : (a : Attr) (more bytes found got left text : List ℕ) → bytes ≡ written_attribute a ++ more → found ≡ a.name → a.value ≡ Some text → got ≡ text → left ≡ 34 ∷ more
-    → ◌≡◌ {A = Option (Attr × ℕ)} (Some (record { name = found; value = Some got }, length bytes - length left + 1)) (Some (a, length (written_attribute a)))
+pub found_value : (a : Attr) (more bytes found got left text : List ℕ) → bytes ≡ attribute_spelling a ++ more → found ≡ a.name → a.value ≡ Some text → got ≡ text → left ≡ 34 ∷ more
+    → ◌≡◌ {A = Option (Attr × ℕ)} (Some (record { name = found; value = Some got }, length bytes - length left + 1)) (Some (a, length (attribute_spelling a)))
 found_value a more bytes found got left text e f v g l =
-    let spelled : bytes ≡ 32 ∷ a.name ++ written_value (Some text) ++ more = e ∙ ap (λ x. 32 ∷ a.name ++ written_value x ++ more) v in
+    let spelled : bytes ≡ 32 ∷ a.name ++ value_spelling (Some text) ++ more = e ∙ ap (λ x. 32 ∷ a.name ++ value_spelling x ++ more) v in
     valued_attribute a.name text more bytes found got left spelled f g l
-    ∙ (λ i. Some (record { name = a.name; value = sym v i }, length (32 ∷ a.name ++ written_value (sym v i))))
+    ∙ (λ i. Some (record { name = a.name; value = sym v i }, length (32 ∷ a.name ++ value_spelling (sym v i))))
 
 -- Whatever attributes the bytes are, those that are left stand at the place, and those found come before them.
 pub record Left (bytes : List ℕ) (found : List Attr) (at : ℕ) (all : List Attr) (more : List ℕ) : Type 0 where
   pub left : List Attr
   pub joined : found ++ left ≡ all
   pub are : AreAttributes left
-  pub stands : drop at bytes ≡ written_attributes left ++ more
-  pub len : at + length (written_attributes left) ≡ length (written_attributes all)
+  pub stands : drop at bytes ≡ attributes_spelling left ++ more
+  pub len : at + length (attributes_spelling left) ≡ length (attributes_spelling all)
 
-pub all_left : (bytes : List ℕ) (all : List Attr) (more : List ℕ) → AreAttributes all → bytes ≡ written_attributes all ++ more → Left bytes [] 0 all more
+pub all_left : (bytes : List ℕ) (all : List Attr) (more : List ℕ) → AreAttributes all → bytes ≡ attributes_spelling all ++ more → Left bytes [] 0 all more
 all_left bytes all more h e = record { left = all; joined = refl; are = h; stands = e; len = omega arith }
 
-pub rest_ends : (rest : List Attr) (more : List ℕ) → EndsTag more → EndsAttribute (written_attributes rest ++ more)
+pub rest_ends : (rest : List Attr) (more : List ℕ) → EndsTag more → EndsAttribute (attributes_spelling rest ++ more)
 rest_ends [] more h = h.0
 rest_ends (a ∷ rest) more h = (refl, λ e. omega arith)
 
@@ -300,41 +300,41 @@ pub attribute_more : (bytes rest : List ℕ) (found all : List Attr) (at len : �
     → IsAttributeOf rest got → ((b : ℕ) (bs : List ℕ) → rest ≡ b ∷ bs → b ≢ 32 → got ≡ None) → got ≡ Some (a, len) → Left bytes (found ++ a ∷ []) (at + len) all more
 attribute_more bytes rest found all at len more a got h ends r is none e = go h.left h.joined h.are h.stands h.len
   where
-    go : (left : List Attr) → found ++ left ≡ all → AreAttributes left → drop at bytes ≡ written_attributes left ++ more → at + length (written_attributes left) ≡ length (written_attributes all)
+    go : (left : List Attr) → found ++ left ≡ all → AreAttributes left → drop at bytes ≡ attributes_spelling left ++ more → at + length (attributes_spelling left) ≡ length (attributes_spelling all)
         → Left bytes (found ++ a ∷ []) (at + len) all more
     go [] j k s l = absurd (no_pair got (a, len) (no_space more got rest ends (r ∙ s) none) e)
     go (x ∷ left) j k s l =
-        let split : rest ≡ written_attribute x ++ (written_attributes left ++ more) = r ∙ (s ∙ append_assoc (written_attribute x) (written_attributes left) more) in
-        let same : ◌≡◌ {A = Attr × ℕ} (a, len) (x, length (written_attribute x)) = same_pair got (a, len) (x, length (written_attribute x)) e (is x (written_attributes left ++ more) k.0 (rest_ends left more ends) split) in
-        let len_is : len ≡ length (written_attribute x) = ap (λ p. p.1) same in
+        let split : rest ≡ attribute_spelling x ++ (attributes_spelling left ++ more) = r ∙ (s ∙ append_assoc (attribute_spelling x) (attributes_spelling left) more) in
+        let same : ◌≡◌ {A = Attr × ℕ} (a, len) (x, length (attribute_spelling x)) = same_pair got (a, len) (x, length (attribute_spelling x)) e (is x (attributes_spelling left ++ more) k.0 (rest_ends left more ends) split) in
+        let len_is : len ≡ length (attribute_spelling x) = ap (λ p. p.1) same in
         record {
           left = left;
           joined = append_assoc found (a ∷ []) left ∙ (ap (λ y. found ++ y ∷ left) (ap (λ p. p.0) same) ∙ j);
           are = k.1;
-          stands = sym (drop-drop len at bytes) ∙ (ap (drop len) (sym r ∙ split) ∙ drop_at (written_attribute x) (written_attributes left ++ more) len (sym len_is));
-          len = omega (arith, length-append (written_attribute x) (written_attributes left));
+          stands = sym (drop-drop len at bytes) ∙ (ap (drop len) (sym r ∙ split) ∙ drop_at (attribute_spelling x) (attributes_spelling left ++ more) len (sym len_is));
+          len = omega (arith, length-append (attribute_spelling x) (attributes_spelling left));
         }
 
 pub attributes_end : (bytes rest : List ℕ) (found all : List Attr) (at : ℕ) (more : List ℕ) (got : Option (Attr × ℕ)) → Left bytes found at all more → EndsTag more → rest ≡ drop at bytes
-    → IsAttributeOf rest got → got ≡ None → (found ≡ all) × (at ≡ length (written_attributes all))
+    → IsAttributeOf rest got → got ≡ None → (found ≡ all) × (at ≡ length (attributes_spelling all))
 attributes_end bytes rest found all at more got h ends r is e = go h.left h.joined h.are h.stands h.len
   where
-    go : (left : List Attr) → found ++ left ≡ all → AreAttributes left → drop at bytes ≡ written_attributes left ++ more → at + length (written_attributes left) ≡ length (written_attributes all)
-        → (found ≡ all) × (at ≡ length (written_attributes all))
+    go : (left : List Attr) → found ++ left ≡ all → AreAttributes left → drop at bytes ≡ attributes_spelling left ++ more → at + length (attributes_spelling left) ≡ length (attributes_spelling all)
+        → (found ≡ all) × (at ≡ length (attributes_spelling all))
     go [] j k s l = (sym (append-nil found) ∙ j, sym (add-zero at) ∙ l)
     go (x ∷ left) j k s l =
-        let split : rest ≡ written_attribute x ++ (written_attributes left ++ more) = r ∙ (s ∙ append_assoc (written_attribute x) (written_attributes left) more) in
-        absurd (no_pair got (x, length (written_attribute x)) e (is x (written_attributes left ++ more) k.0 (rest_ends left more ends) split))
+        let split : rest ≡ attribute_spelling x ++ (attributes_spelling left ++ more) = r ∙ (s ∙ append_assoc (attribute_spelling x) (attributes_spelling left) more) in
+        absurd (no_pair got (x, length (attribute_spelling x)) e (is x (attributes_spelling left ++ more) k.0 (rest_ends left more ends) split))
 
 -- A tag.
 pub record TagParts (name : List ℕ) (attributes : List Attr) (tail name0 rest : List ℕ) : Type 0 where
   pub name_is : name0 ≡ name
-  pub rest_is : rest ≡ written_attributes attributes ++ tail
+  pub rest_is : rest ≡ attributes_spelling attributes ++ tail
 
-pub tag_parts : (name : List ℕ) (attributes : List Attr) (tail bytes named name0 rest : List ℕ) (n : ℕ) → IsTagName name → EndsTag tail → bytes ≡ tag_front name attributes ++ tail → named ≡ drop 1 bytes
+pub tag_parts : (name : List ℕ) (attributes : List Attr) (tail bytes named name0 rest : List ℕ) (n : ℕ) → IsTagName name → EndsTag tail → bytes ≡ tag_prefix name attributes ++ tail → named ≡ drop 1 bytes
     → n ≡ front_len continues_attribute_name named → name0 ≡ take n named → rest ≡ drop n named → TagParts name attributes tail name0 rest
 tag_parts name attributes tail bytes named name0 rest n t ends e d is f b =
-    let cut : Cut named n name (written_attributes attributes ++ tail) = tag_cut name attributes tail bytes named n t ends e d is in record { name_is = f ∙ cut.front; rest_is = b ∙ cut.back }
+    let cut : Cut named n name (attributes_spelling attributes ++ tail) = tag_cut name attributes tail bytes named n t ends e d is in record { name_is = f ∙ cut.front; rest_is = b ∙ cut.back }
 
 -- what is read of a tag
 pub record IsRead (bytes named name0 rest : List ℕ) (n : ℕ) (got : Option (List ℕ)) : Type 0 where
@@ -344,7 +344,7 @@ pub record IsRead (bytes named name0 rest : List ℕ) (n : ℕ) (got : Option (L
   pub rest_is : rest ≡ drop n named
   pub got_is : IsTagName name0 → got ≡ Some name0
 
-read_parts : (name : List ℕ) (attributes : List Attr) (tail bytes named name0 rest : List ℕ) (n : ℕ) (got : Option (List ℕ)) → IsRead bytes named name0 rest n got → IsTagName name → EndsTag tail → bytes ≡ tag_front name attributes ++ tail
+read_parts : (name : List ℕ) (attributes : List Attr) (tail bytes named name0 rest : List ℕ) (n : ℕ) (got : Option (List ℕ)) → IsRead bytes named name0 rest n got → IsTagName name → EndsTag tail → bytes ≡ tag_prefix name attributes ++ tail
     → TagParts name attributes tail name0 rest × (got ≡ Some name)
 read_parts name attributes tail bytes named name0 rest n got r t ends e =
     let p : TagParts name attributes tail name0 rest = tag_parts name attributes tail bytes named name0 rest n t ends e r.named_is r.n_is r.name_is r.rest_is in
@@ -362,15 +362,15 @@ record Finds (name : List ℕ) (attributes : List Attr) (tail name1 : List ℕ) 
   end_is : end ≡ tail
 
 finds : (name : List ℕ) (attributes : List Attr) (tail bytes named name0 rest name1 end : List ℕ) (found : List Attr) (n len : ℕ) (got : Option (List ℕ)) → IsRead bytes named name0 rest n got
-    → IsTagName name → AreAttributes attributes → EndsTag tail → bytes ≡ tag_front name attributes ++ tail → got ≡ Some name1 → AreAttributesOf rest found len → end ≡ drop len rest
+    → IsTagName name → AreAttributes attributes → EndsTag tail → bytes ≡ tag_prefix name attributes ++ tail → got ≡ Some name1 → AreAttributesOf rest found len → end ≡ drop len rest
     → Finds name attributes tail name1 found end
 finds name attributes tail bytes named name0 rest name1 end found n len got r t h ends e g is d =
     let p : TagParts name attributes tail name0 rest × (got ≡ Some name) = read_parts name attributes tail bytes named name0 rest n got r t ends e in
-    let a : (found ≡ attributes) × (len ≡ length (written_attributes attributes)) = is attributes tail h ends p.0.rest_is in
+    let a : (found ≡ attributes) × (len ≡ length (attributes_spelling attributes)) = is attributes tail h ends p.0.rest_is in
     record {
       name_is = same_some got name1 name g p.1;
       found_is = a.0;
-      end_is = d ∙ (ap (drop len) p.0.rest_is ∙ drop_at (written_attributes attributes) tail len (sym a.1));
+      end_is = d ∙ (ap (drop len) p.0.rest_is ∙ drop_at (attributes_spelling attributes) tail len (sym a.1));
     }
 
 not_both : (end : List ℕ) → end ≡ codes ">" → end ≡ codes "/>" → ⊥

@@ -6,7 +6,7 @@ use Rattle.std.proofs.lemmas.Bool.{cond_both, cond-false, eqb-true, ne_eqb, and_
 use Rattle.std.proofs.lemmas.List.{nil_from_length}
 use Rattle.std.proofs.lemmas.Str.{IsUtf8-append}
 use Rattle.fizz_text.specs.declared.attribute.Attr.{Attr}
-use Rattle.html_names.specs.Escape.{escaped, entities}
+use Rattle.html_names.specs.Escape.{escape_of, entities}
 use Rattle.html_names.proofs.Utf8.{escaped_utf8, utf8_ascii, AreAscii}
 use Rattle.html_read.specs.declared.fault.ReadKind.{ReadKind}
 use Rattle.html_read.specs.declared.fault.ReadKind.TheVariants as kinds
@@ -20,7 +20,7 @@ use Rattle.html_read.specs.declared.machine.Mode.TheVariants.{Text, Name, EndNam
 use Rattle.html_read.specs.declared.machine.Turn.{Turn}
 use Rattle.html_read.specs.declared.machine.Turn.TheVariants.{Goes, Ends, Cuts, Fails}
 use Rattle.html_read.specs.Names.{is_letter, is_digit, continues_attribute_name, IsTagName, IsAttributeName}
-use Rattle.html_names.specs.Printing.{written_attribute, written_attributes, tag_front}
+use Rattle.html_names.specs.Printing.{attribute_spelling, attributes_spelling, tag_prefix}
 use Rattle.html_read.specs.Tokens.{IsAttribute, script_end}
 use Rattle.html_read.specs.Faults.{begins_tag, IsOpenValue, IsRun, IsUtf8Front, IsAtUtf8, IsAtEntity, IsAtText, IsAtComment, IsAtAttribute, HasKind}
 use Rattle.html_read.specs.Machine.{is_word, begins_word, start_words, tag_words, comment_words, tag_flag, char_start, starts_char, start_after, tail_after, entity_after, place_after, text_turn, value_turn, close_turn, flag_turn, after_name, name_turn, end_flag_turn, end_name_turn, comment_turn, script_turn, space_turn, attribute_turn, equals_turn, slash_turn, turn_of}
@@ -62,7 +62,7 @@ entity_ascii e h =
     utf8_ascii e (ascii_all e (all_front (λ b. nat_lt b 128) e g.0 (word_passes (list_all (λ b. nat_lt b 128)) entities (e ++ g.0) refl g.1)))
 
 entity_utf8 : (base start : ℕ) (run : List ℕ) → HasEntity base start run → IsUtf8 run
-entity_utf8 base start run h = subst IsUtf8 (sym h.is) (IsUtf8-append (escaped h.text) h.entity (escaped_utf8 h.text h.utf8) (entity_ascii h.entity h.begun))
+entity_utf8 base start run h = subst IsUtf8 (sym h.is) (IsUtf8-append (escape_of h.text) h.entity (escaped_utf8 h.text h.utf8) (entity_ascii h.entity h.begun))
 
 starts_front : (b : ℕ) → starts_char b ≡ true → IsUtf8Front (b ∷ [])
 starts_front b h =
@@ -120,7 +120,7 @@ char_fails : (base b : ℕ) (tail : Tail) (run : List ℕ) → HasChar tail run 
 char_fails base b tail run h = go (tail_after tail b) refl (tail_fine tail h.part b h.wants)
   where
     through : chars_through Whole run ≡ Ok (Char tail)
-    through = ap (chars_through Whole) h.is ∙ (chars_append Whole (escaped h.text) h.part ∙ (ap (λ r. on_place r (λ q. chars_through q h.part)) (utf8_through (escaped h.text) (escaped_utf8 h.text h.utf8)) ∙ h.through))
+    through = ap (chars_through Whole) h.is ∙ (chars_append Whole (escape_of h.text) h.part ∙ (ap (λ r. on_place r (λ q. chars_through q h.part)) (utf8_through (escape_of h.text) (escaped_utf8 h.text h.utf8)) ∙ h.through))
 
     go : (r : Result Place RunFault) → tail_after tail b ≡ r → IsFine (h.part ++ b ∷ []) r → FailsWith base run b r
     go (Ok p) e fine = tt
@@ -150,7 +150,7 @@ no_utf8 : (rest run : List ℕ) (b : ℕ) → OnlyRun rest run → IsUtf8Front (
 no_utf8 rest run b only front k = k.2 (subst (λ r. IsUtf8Front (r ++ b ∷ [])) (sym (only k.0 k.1)) front)
 
 no_entity : (rest run : List ℕ) → OnlyRun rest run → HasWhole run → ¬ IsAtEntity rest
-no_entity rest run only h k = not_within h.text k.0 k.1 (sym h.is ∙ sym (only (escaped k.0 ++ k.1) k.2)) k.3
+no_entity rest run only h k = not_within h.text k.0 k.1 (sym h.is ∙ sym (only (escape_of k.0 ++ k.1) k.2)) k.3
 
 entity_kind : (base start : ℕ) (rest run : List ℕ) (b : ℕ) → IsRun rest run → OnlyRun rest run → HasEntity base start run → starts_char b ≡ true → HasKind rest b kinds.Entity
 entity_kind base start rest run b is only h s =
@@ -164,7 +164,7 @@ KindIs rest b (Fails kind) = HasKind rest b kind
 
 -- In a text.
 run_no_tag : (base : ℕ) (p : Place) (run : List ℕ) → HasRun base p run → begins_tag run ≡ false
-run_no_tag base Whole run h = ap begins_tag (h.is ∙ sym (append-nil (escaped h.text))) ∙ escaped_no_tag h.text [] refl
+run_no_tag base Whole run h = ap begins_tag (h.is ∙ sym (append-nil (escape_of h.text))) ∙ escaped_no_tag h.text [] refl
 run_no_tag base (Char tail) run h = ap begins_tag h.is ∙ escaped_no_tag h.text h.part (high_no_tag h.part h.high)
   where
     high_no_tag : (part : List ℕ) → AreHigh part → begins_tag part ≡ false
@@ -188,7 +188,7 @@ run_no_tag base (Entity start) run h = ap begins_tag h.is ∙ escaped_no_tag h.t
         let g : (rest : List ℕ) × (is_word entities (e ++ rest) ≡ true) = begins_gives entities e k.begun in
         first e (all_front (λ b. not (b == 60)) e g.0 (word_passes (list_all (λ b. not (b == 60))) entities (e ++ g.0) refl g.1))
 
-front_tag : (rest : List ℕ) (name : List ℕ) (attributes : List Attr) (more : List ℕ) → rest ≡ tag_front name attributes ++ more → begins_tag rest ≡ true
+front_tag : (rest : List ℕ) (name : List ℕ) (attributes : List Attr) (more : List ℕ) → rest ≡ tag_prefix name attributes ++ more → begins_tag rest ≡ true
 front_tag rest name attributes more e = ap begins_tag e
 
 text_only : (run : List ℕ) → begins_tag run ≡ false → OnlyRun run run
@@ -214,7 +214,7 @@ no_utf8_here : (rest : List ℕ) (b : ℕ) → quoted false rest ≡ false → b
 no_utf8_here rest b q t k = no_run rest q t k.0 k.1
 
 no_entity_here : (rest : List ℕ) → quoted false rest ≡ false → begins_tag rest ≡ true → ¬ IsAtEntity rest
-no_entity_here rest q t k = no_run rest q t (escaped k.0 ++ k.1) k.2
+no_entity_here rest q t k = no_run rest q t (escape_of k.0 ++ k.1) k.2
 
 no_text : (rest : List ℕ) → begins_tag rest ≡ true → ¬ IsAtText rest
 no_text rest t k = none_true (sym k ∙ t)
@@ -239,7 +239,7 @@ record FollowsName (bytes : List ℕ) : Type 0 where
   is : bytes ≡ after ∷ more
   other : is_name_byte after ≡ false
 
-attributes_follow : (attributes : List Attr) (x : ℕ) (more : List ℕ) → is_name_byte x ≡ false → FollowsName (written_attributes attributes ++ x ∷ more)
+attributes_follow : (attributes : List Attr) (x : ℕ) (more : List ℕ) → is_name_byte x ≡ false → FollowsName (attributes_spelling attributes ++ x ∷ more)
 attributes_follow [] x more n = record { after = x; more = more; is = refl; other = n }
 attributes_follow (a ∷ rest) x more n = record { after = 32; more = _; is = refl; other = refl }
 
@@ -251,13 +251,13 @@ record InTag (rest : List ℕ) (b : ℕ) : Type 0 where
 in_tag : (v : Bool) (front suffix : List ℕ) (b x : ℕ) (more : List ℕ) → HasTag v front → suffix ++ b ∷ [] ≡ x ∷ more → is_name_byte x ≡ false → InTag (front ++ suffix) b
 in_tag v front suffix b x more h e n =
     let named : IsTagName h.name = tag_of_flag h.name v h.flag in
-    let f : FollowsName (written_attributes h.attributes ++ x ∷ more) = attributes_follow h.attributes x more n in
+    let f : FollowsName (attributes_spelling h.attributes ++ x ∷ more) = attributes_follow h.attributes x more n in
     let all : front ++ suffix ++ b ∷ [] ≡ 60 ∷ h.name ++ f.after ∷ f.more =
-    append_assoc front suffix (b ∷ []) ∙ (ap (λ s. front ++ s) e ∙ (ap (λ s. s ++ x ∷ more) h.is ∙ (append_assoc (60 ∷ h.name) (written_attributes h.attributes) (x ∷ more) ∙ ap (λ s. 60 ∷ h.name ++ s) f.is))) in
-    let start : front ++ suffix ≡ 60 ∷ h.name ++ (written_attributes h.attributes ++ suffix) = ap (λ s. s ++ suffix) h.is ∙ append_assoc (60 ∷ h.name) (written_attributes h.attributes) suffix in
+    append_assoc front suffix (b ∷ []) ∙ (ap (λ s. front ++ s) e ∙ (ap (λ s. s ++ x ∷ more) h.is ∙ (append_assoc (60 ∷ h.name) (attributes_spelling h.attributes) (x ∷ more) ∙ ap (λ s. 60 ∷ h.name ++ s) f.is))) in
+    let start : front ++ suffix ≡ 60 ∷ h.name ++ (attributes_spelling h.attributes ++ suffix) = ap (λ s. s ++ suffix) h.is ∙ append_assoc (60 ∷ h.name) (attributes_spelling h.attributes) suffix in
     record {
       tag = ap begins_tag start;
-      comment = tag_no_comment h.name (written_attributes h.attributes ++ suffix) (front ++ suffix) (tag_name_letter h.name named) start;
+      comment = tag_no_comment h.name (attributes_spelling h.attributes ++ suffix) (front ++ suffix) (tag_name_letter h.name named) start;
       attribute = (h.name, f.after, f.more, named, all, f.other);
     }
 
@@ -303,7 +303,7 @@ slash_kind : (front : List ℕ) (b : ℕ) → HasTag true front → KindIs (fron
 slash_kind front b h =
     cond_both (b == 62) _ _ (KindIs (front ++ 47 ∷ []) b) (λ s. tt) (λ n. tag_kind true front (47 ∷ []) b 47 (b ∷ []) h refl refl refl)
 
-written_closed : (a : Attr) → IsAttribute a → quoted false (written_attribute a) ≡ false
+written_closed : (a : Attr) → IsAttribute a → quoted false (attribute_spelling a) ≡ false
 written_closed a h = quoted_attribute a h
 
 -- In the value of an attribute.
@@ -312,9 +312,9 @@ value_only v front name run rest h q e t other k =
     let here : rest ≡ (front ++ (32 ∷ name ++ 61 ∷ [])) ++ 34 ∷ run =
     e ∙ (append_assoc front (32 ∷ name ++ 61 ∷ 34 ∷ []) run ∙ (ap (λ s. front ++ s) (append_assoc (32 ∷ name) (61 ∷ 34 ∷ []) run ∙ sym (append_assoc (32 ∷ name) (61 ∷ []) (34 ∷ run))) ∙ sym (append_assoc front (32 ∷ name ++ 61 ∷ []) (34 ∷ run)))) in
     let found : IsOpenValue rest other → other ≡ run = λ o.
-    let there : rest ≡ (tag_front o.0 o.1 ++ (32 ∷ o.2 ++ 61 ∷ [])) ++ 34 ∷ other =
-    o.6 ∙ (ap (λ s. tag_front o.0 o.1 ++ s) (sym (append_assoc (32 ∷ o.2) (61 ∷ []) (34 ∷ other))) ∙ sym (append_assoc (tag_front o.0 o.1) (32 ∷ o.2 ++ 61 ∷ []) (34 ∷ other))) in
-    after_quote (tag_front o.0 o.1 ++ (32 ∷ o.2 ++ 61 ∷ [])) (front ++ (32 ∷ name ++ 61 ∷ [])) other run o.7 q (sym there ∙ here) in
+    let there : rest ≡ (tag_prefix o.0 o.1 ++ (32 ∷ o.2 ++ 61 ∷ [])) ++ 34 ∷ other =
+    o.6 ∙ (ap (λ s. tag_prefix o.0 o.1 ++ s) (sym (append_assoc (32 ∷ o.2) (61 ∷ []) (34 ∷ other))) ∙ sym (append_assoc (tag_prefix o.0 o.1) (32 ∷ o.2 ++ 61 ∷ []) (34 ∷ other))) in
+    after_quote (tag_prefix o.0 o.1 ++ (32 ∷ o.2 ++ 61 ∷ [])) (front ++ (32 ∷ name ++ 61 ∷ [])) other run o.7 q (sym there ∙ here) in
     ⊎_elim (λ s. absurd (none_true (sym s.0 ∙ t))) found k
 
 value_kind : (v : Bool) (p : Place) (front name run : List ℕ) (b base : ℕ) → HasTag v front → IsAttributeName name → HasRun base p run → (r : Result Place RunFault) → FailsWith base run b r
@@ -461,7 +461,7 @@ turn_kind (Value v p) rest b h =
     (run_fails (length (opening h.front h.name)) p h.run (opening h.front h.name ++ h.run ++ b ∷ []) b h.has))
 turn_kind (Close v) rest b h =
     subst (λ s. KindIs s b (turn_of (Close v) s (s ++ b ∷ []) b)) (sym h.is)
-    (close_kind v v h.front (written_attribute h.attribute) b 32 _ h.tag (written_closed h.attribute h.fine) refl refl)
+    (close_kind v v h.front (attribute_spelling h.attribute) b 32 _ h.tag (written_closed h.attribute h.fine) refl refl)
 turn_kind Slash rest b h = subst (λ s. KindIs s b (turn_of Slash s (s ++ b ∷ []) b)) (sym h.is) (slash_kind h.front b h.tag)
 
 -- The kind that the step tells is the fault's.

@@ -3,7 +3,7 @@ use Rattle.std.proofs.Common.{◌≡◌, ◌≢◌, ℕ, ◌<◌, true, false, �
 use Rattle.std.specs.Prelude.{option_to_list}
 use Rattle.std.proofs.lemmas.Bool.{cases_Bool, eqb-true, eqb-false}
 use Rattle.std.proofs.lemmas.List.{nil_from_length}
-use Rattle.html_names.specs.Escape.{spelling_of, escaped}
+use Rattle.html_names.specs.Escape.{spelling_of, escape_of}
 use Rattle.html_names.proofs.Escaping.{spelling_some}
 use Rattle.html_read.specs.declared.token.Token.{Token}
 use Rattle.html_read.specs.declared.token.Token.TheVariants as toks
@@ -12,7 +12,7 @@ use Rattle.html_read.specs.declared.place.Place.{Place}
 use Rattle.html_read.specs.declared.place.Place.TheVariants.{Whole, Char, Entity}
 use Rattle.html_read.specs.declared.machine.Mode.{Mode}
 use Rattle.html_read.specs.declared.machine.Mode.TheVariants.{Text, Name, EndName, Comment, Script, Space, Attribute, Equals, Value, Close, Slash}
-use Rattle.html_read.specs.Tokens.{spellings, AreTokens, MayFollow, Tokenizes, spelling, is_text, IsTok}
+use Rattle.html_read.specs.Tokens.{spellings, AreTokens, MayFollow, Tokenizes, spelling, is_text, IsToken}
 use Rattle.html_read.specs.Machine.{go_on, mode_after, mode_of, is_whole_place, is_whole_text}
 use Rattle.html_read.specs.Building.{IsTokenOf}
 use Rattle.html_read.specs.Faults.{ends_in_text}
@@ -30,23 +30,23 @@ none_mode : (o : Option Mode) (n : Mode) → o ≡ None → o ≡ Some n → ⊥
 none_mode o n e f = cc
 
 -- After a whole token that is no text no mode is left.
-other_mode : (tok : Token) → IsTok tok → is_text tok ≡ false → mode_of (spelling tok) ≡ None
+other_mode : (tok : Token) → IsToken tok → is_text tok ≡ false → mode_of (spelling tok) ≡ None
 unfolding mode_of
 other_mode tok h n =
     let p : Passes (spelling tok) = tok_passes tok h n in
     ap (mode_after (Text Whole) []) p.is ∙ (mode_append Name (60 ∷ []) p.front (p.last ∷ []) p.mode p.through ∙ ap (λ t. go_on t (λ m. Some m)) p.ends)
 
-text_ends : (tok : Token) → IsTok tok → is_text tok ≡ true → mode_of (spelling tok) ≡ Some (Text Whole)
+text_ends : (tok : Token) → IsToken tok → is_text tok ≡ true → mode_of (spelling tok) ≡ Some (Text Whole)
 unfolding mode_of
 text_ends (toks.Start name attributes from) h t = absurd (none_true t)
 text_ends (toks.End name from) h t = absurd (none_true t)
 text_ends (toks.Void name attributes from) h t = absurd (none_true t)
-text_ends (toks.Text text from) h t = text_mode Whole Whole [] (escaped text) (text_through [] text h.1)
+text_ends (toks.Text text from) h t = text_mode Whole Whole [] (escape_of text) (text_through [] text h.1)
 text_ends (toks.Comment which from) h t = absurd (none_true t)
 text_ends (toks.Script body from) h t = absurd (none_true t)
 
 -- What is a whole token is a text, between its characters.
-whole_is_text : (tok : Token) (rest : List ℕ) (mode : Mode) → mode_of rest ≡ Some mode → IsTok tok → rest ≡ spelling tok → mode ≡ Text Whole
+whole_is_text : (tok : Token) (rest : List ℕ) (mode : Mode) → mode_of rest ≡ Some mode → IsToken tok → rest ≡ spelling tok → mode ≡ Text Whole
 whole_is_text tok rest mode e h s =
     ⊎_elim (λ t. some_mode (mode_of rest) mode (Text Whole) e (ap mode_of s ∙ text_ends tok h t)) (λ f. absurd (none_mode (mode_of rest) mode (ap mode_of s ∙ other_mode tok h f) e)) (cases_Bool (is_text tok))
 
@@ -64,14 +64,14 @@ pub last_so_far : (held : ReaderState) (found : Option Token) → held.rest ≢ 
 last_so_far held None some h = absurd (some h.1)
 last_so_far held (Some tok) some h = h
 
-escaped_none : (text : List ℕ) → escaped text ≡ [] → text ≡ []
+escaped_none : (text : List ℕ) → escape_of text ≡ [] → text ≡ []
 escaped_none [] e = refl
-escaped_none (b ∷ text) e = absurd (no_nothing (length (escaped (b ∷ text))) (ap length e) (omega (arith, spelling_some b, length-append (spelling_of b) (escaped text))))
+escaped_none (b ∷ text) e = absurd (no_nothing (length (escape_of (b ∷ text))) (ap length e) (omega (arith, spelling_some b, length-append (spelling_of b) (escape_of text))))
   where
     no_nothing : (n : ℕ) → n ≡ 0 → 0 < n → ⊥
     no_nothing n z l = omega arith
 
-text_some : (tok : Token) → IsTok tok → is_text tok ≡ true → spelling tok ≢ []
+text_some : (tok : Token) → IsToken tok → is_text tok ≡ true → spelling tok ≢ []
 text_some (toks.Start name attributes from) h t e = absurd (none_true t)
 text_some (toks.End name from) h t e = absurd (none_true t)
 text_some (toks.Void name attributes from) h t e = absurd (none_true t)

@@ -9,7 +9,7 @@ use Rattle.std.proofs.lemmas.List.Concat.{flat_map-append}
 use Rattle.std.proofs.lemmas.Slice.Eq.{bytes_eq-Decides, ends_is}
 use Rattle.std.proofs.lemmas.Str.{IsUtf8-nil}
 use Rattle.fizz_text.specs.declared.attribute.Attr.{Attr}
-use Rattle.html_names.specs.Escape.{escaped, entities}
+use Rattle.html_names.specs.Escape.{escape_of, entities}
 use Rattle.html_names.specs.Elements.{element_rows}
 use Rattle.html_names.specs.declared.comments.CommentKind.{CommentKind}
 use Rattle.html_names.specs.declared.comments.CommentKind.TheVariants as kind
@@ -26,9 +26,9 @@ use Rattle.html_read.specs.declared.machine.Mode.TheVariants.{Text, Name, EndNam
 use Rattle.html_read.specs.declared.machine.Turn.{Turn}
 use Rattle.html_read.specs.declared.machine.Turn.TheVariants.{Goes, Ends, Cuts, Fails}
 use Rattle.html_read.specs.Names.{is_letter, is_digit, continues_attribute_name, IsAttributeName}
-use Rattle.html_names.specs.Printing.{written_attribute, written_attributes, tag_front}
+use Rattle.html_names.specs.Printing.{attribute_spelling, attributes_spelling, tag_prefix}
 use Rattle.html_names.specs.Comments.{comment_data}
-use Rattle.html_read.specs.Tokens.{IsAttribute, AreAttributes, script_end, IsScriptBody, spelling, IsTok, place_of, is_text}
+use Rattle.html_read.specs.Tokens.{IsAttribute, AreAttributes, script_end, IsScriptBody, spelling, IsToken, place_of, is_text}
 use Rattle.html_read.specs.Machine.{is_word, begins_word, tag_words, start_words, comment_words, tag_flag, next_within, tail_after, starts_char, entity_after, place_after, text_turn, value_turn, close_turn, flag_turn, after_name, name_turn, end_flag_turn, end_name_turn, comment_turn, script_turn, space_turn, attribute_turn, equals_turn, slash_turn, turn_of}
 use Rattle.html_read.proofs.WordFronts.{none_true, tag_of_flag, void_of_flag}
 use Rattle.html_read.proofs.Runs.{HasRun, HasWhole, place_keeps}
@@ -39,7 +39,7 @@ pub record HasTag (v : Bool) (front : List ℕ) : Type 0 where
   pub attributes : List Attr
   pub flag : tag_flag name ≡ Some v
   pub are : AreAttributes attributes
-  pub is : front ≡ tag_front name attributes
+  pub is : front ≡ tag_prefix name attributes
 
 pub record InName (seen : List ℕ) : Type 0 where
   pub name : List ℕ
@@ -99,7 +99,7 @@ pub record InClose (v : Bool) (seen : List ℕ) : Type 0 where
   pub attribute : Attr
   pub tag : HasTag v front
   pub fine : IsAttribute attribute
-  pub is : seen ≡ front ++ written_attribute attribute
+  pub is : seen ≡ front ++ attribute_spelling attribute
 
 pub record InSlash (seen : List ℕ) : Type 0 where
   pub front : List ℕ
@@ -122,7 +122,7 @@ Fits Slash seen = InSlash seen
 -- The bytes are a token, wherever it stands: a text or another.
 pub record IsSpelling (text : Bool) (bytes : List ℕ) (from : ℕ) : Type 0 where
   pub tok : Token
-  pub is_tok : IsTok tok
+  pub is_tok : IsToken tok
   pub spelled : bytes ≡ spelling tok
   pub text_is : is_text tok ≡ text
   pub place_is : place_of tok ≡ from
@@ -172,7 +172,7 @@ byte_is_whole base (Entity start) run token b h e = absurd (entity_no_byte start
 pub whole_text : (run : List ℕ) (from : ℕ) → HasWhole run → run ≢ [] → IsSpelling true run from
 whole_text run from h n = record {
   tok = toks.Text h.text from;
-  is_tok = (λ e. n (h.is ∙ ap escaped e), h.utf8);
+  is_tok = (λ e. n (h.is ∙ ap escape_of e), h.utf8);
   spelled = h.is;
   text_is = refl;
   place_is = refl;
@@ -196,14 +196,14 @@ are_more [] a h fine = (fine, tt)
 are_more (x ∷ more) a h fine = (h.0, are_more more a h.1 fine)
 
 -- One attribute more.
-pub more_attributes : (v : Bool) (front : List ℕ) (a : Attr) → HasTag v front → IsAttribute a → HasTag v (front ++ written_attribute a)
+pub more_attributes : (v : Bool) (front : List ℕ) (a : Attr) → HasTag v front → IsAttribute a → HasTag v (front ++ attribute_spelling a)
 more_attributes v front a h fine = record {
   name = h.name;
   attributes = h.attributes ++ a ∷ [];
   flag = h.flag;
   are = are_more h.attributes a h.are fine;
-  is = ap (λ f. f ++ written_attribute a) h.is ∙ (append_assoc (60 ∷ h.name) (written_attributes h.attributes) (written_attribute a)
-      ∙ ap (λ w. (60 ∷ h.name) ++ w) (sym (flat_map-append written_attribute h.attributes (a ∷ []) ∙ ap (λ w. written_attributes h.attributes ++ w) (append-nil (written_attribute a)))));
+  is = ap (λ f. f ++ attribute_spelling a) h.is ∙ (append_assoc (60 ∷ h.name) (attributes_spelling h.attributes) (attribute_spelling a)
+      ∙ ap (λ w. (60 ∷ h.name) ++ w) (sym (flat_map-append attribute_spelling h.attributes (a ∷ []) ∙ ap (λ w. attributes_spelling h.attributes ++ w) (append-nil (attribute_spelling a)))));
 }
 
 -- After a whole name or an attribute.
@@ -427,5 +427,5 @@ turn_good (Value v p) seen b h =
     subst (λ s. IsGoodTurn s b (turn_of (Value v p) s (s ++ b ∷ []) b)) (sym h.is)
     (value_good v p h.front h.name h.run b h.tag h.named h.has (place_after p (opening h.front h.name ++ h.run ++ b ∷ []) b) refl)
 turn_good (Close v) seen b h =
-    subst (λ s. IsGoodTurn s b (turn_of (Close v) s (s ++ b ∷ []) b)) (sym h.is) (close_good v (h.front ++ written_attribute h.attribute) b (more_attributes v h.front h.attribute h.tag h.fine))
+    subst (λ s. IsGoodTurn s b (turn_of (Close v) s (s ++ b ∷ []) b)) (sym h.is) (close_good v (h.front ++ attribute_spelling h.attribute) b (more_attributes v h.front h.attribute h.tag h.fine))
 turn_good Slash seen b h = subst (λ s. IsGoodTurn s b (turn_of Slash s (s ++ b ∷ []) b)) (sym h.is) (slash_good h.front b h.tag)

@@ -1,7 +1,7 @@
 -- Which bytes can go on to be a page: those that the reader passes over.
 use Rattle.std.proofs.Common.{◌≡◌, ℕ, ◌+◌, Bool, true, false, if◌then◌else◌, Option, Some, None, List, [], ◌∷◌, ◌++◌, length, refl, sym, ◌∙◌, ap, subst, ⊎_elim, arith, append-nil, append_assoc, length-append}
 use Rattle.std.proofs.lemmas.Bool.{cond-false, ne_eqb, cases_Bool, eqb-true, true≢false}
-use Rattle.html_names.specs.Escape.{escaped}
+use Rattle.html_names.specs.Escape.{escape_of}
 use Rattle.html_read.specs.declared.token.Token.{Token}
 use Rattle.html_read.specs.declared.token.Token.TheVariants as toks
 use Rattle.html_read.specs.declared.place.Place.TheVariants.{Whole}
@@ -9,7 +9,7 @@ use Rattle.html_read.specs.declared.machine.Mode.{Mode}
 use Rattle.html_read.specs.declared.machine.Mode.TheVariants.{Text, Name}
 use Rattle.html_read.specs.declared.machine.Turn.{Turn}
 use Rattle.html_read.specs.declared.machine.Turn.TheVariants.{Goes, Ends, Cuts, Fails}
-use Rattle.html_read.specs.Tokens.{spelling, spellings, IsTok, AreTokensFrom, AreTokens, MayFollow, Tokenizes, is_text}
+use Rattle.html_read.specs.Tokens.{spelling, spellings, IsToken, AreTokensFrom, AreTokens, MayFollow, Tokenizes, is_text}
 use Rattle.html_read.specs.Faults.{IsAlive, begins_tag, ends_in_text}
 use Rattle.html_read.specs.Machine.{turn_of, go_on, mode_after}
 use Rattle.html_read.proofs.WordFronts.{none_true}
@@ -58,7 +58,7 @@ lives_tag (s ∷ seen) bs =
     ap (λ t. live_on t (λ m. lives m ((s ∷ seen) ++ 60 ∷ []) bs) (lives (Text Whole) [] bs) (lives Name (60 ∷ []) bs)) (cuts_here s seen)
 
 -- The bytes of a token that is no text.
-pub lives_tok : (tok : Token) (seen more : List ℕ) → IsTok tok → is_text tok ≡ false → lives (Text Whole) seen (spelling tok ++ more) ≡ lives (Text Whole) [] more
+pub lives_tok : (tok : Token) (seen more : List ℕ) → IsToken tok → is_text tok ≡ false → lives (Text Whole) seen (spelling tok ++ more) ≡ lives (Text Whole) [] more
 lives_tok tok seen more h n =
     let p : Passes (spelling tok) = tok_passes tok h n in
     let split : spelling tok ++ more ≡ 60 ∷ (p.front ++ p.last ∷ more) = ap (λ x. x ++ more) p.is ∙ append_assoc (60 ∷ p.front) (p.last ∷ []) more in
@@ -75,11 +75,11 @@ before_text : (after : Bool) → MayFollow after true → after ≡ false
 before_text true m = absurd m
 before_text false m = refl
 
-text_goes : (tok : Token) → IsTok tok → is_text tok ≡ true → mode_after (Text Whole) [] (spelling tok) ≡ Some (Text Whole)
+text_goes : (tok : Token) → IsToken tok → is_text tok ≡ true → mode_after (Text Whole) [] (spelling tok) ≡ Some (Text Whole)
 text_goes (toks.Start name attributes from) h t = absurd (none_true t)
 text_goes (toks.End name from) h t = absurd (none_true t)
 text_goes (toks.Void name attributes from) h t = absurd (none_true t)
-text_goes (toks.Text text from) h t = text_mode Whole Whole [] (escaped text) (text_through [] text h.1)
+text_goes (toks.Text text from) h t = text_mode Whole Whole [] (escape_of text) (text_through [] text h.1)
 text_goes (toks.Comment which from) h t = absurd (none_true t)
 text_goes (toks.Script body from) h t = absurd (none_true t)
 

@@ -7,7 +7,7 @@ use Rattle.std.proofs.lemmas.Bool.Decides.{Decides-eqb}
 use Rattle.std.proofs.lemmas.List.{drop_at, same_from_push}
 use Rattle.std.proofs.lemmas.Slice.Eq.{bytes_eq-Decides, ends_is}
 use Rattle.fizz_text.specs.declared.attribute.Attr.{Attr}
-use Rattle.html_names.specs.Escape.{escaped}
+use Rattle.html_names.specs.Escape.{escape_of}
 use Rattle.html_names.specs.Elements.{element_rows}
 use Rattle.html_names.specs.declared.comments.CommentKind.{CommentKind}
 use Rattle.html_names.specs.declared.comments.CommentKind.TheVariants as kind
@@ -19,9 +19,9 @@ use Rattle.html_read.specs.declared.machine.Mode.{Mode}
 use Rattle.html_read.specs.declared.machine.Mode.TheVariants.{Name, EndName, Comment, Script, Space, Attribute, Value, Close, Slash}
 use Rattle.html_read.specs.declared.machine.Turn.TheVariants.{Goes, Ends, Fails}
 use Rattle.html_read.specs.Names.{is_letter, continues_attribute_name, IsTagName, IsAttributeName}
-use Rattle.html_names.specs.Printing.{written_value, written_attribute, written_attributes, tag_front}
+use Rattle.html_names.specs.Printing.{value_spelling, attribute_spelling, attributes_spelling, tag_prefix}
 use Rattle.html_names.specs.Comments.{comment_data}
-use Rattle.html_read.specs.Tokens.{HasValue, AreAttributes, script_end, IsScriptBody, spelling, IsTok, is_text}
+use Rattle.html_read.specs.Tokens.{HasValue, AreAttributes, script_end, IsScriptBody, spelling, IsToken, is_text}
 use Rattle.html_read.specs.Machine.{is_word, begins_word, tag_words, start_words, tag_flag, close_turn, flag_turn, end_flag_turn, go_on, mode_after}
 use Rattle.html_read.proofs.WordFronts.{none_true, begins_gives, is_name_byte, begins_with_letter, start_word_bytes, tag_name_letter, tag_name_is, tag_name_not_script, tag_of_flag, flag_of_tag, flag_of_void}
 use Rattle.html_read.proofs.Fits.{script_goes}
@@ -118,13 +118,13 @@ record AttributePasses (v : Bool) (mode : Mode) (seen bytes : List ℕ) : Type 0
   through : mode_after mode seen bytes ≡ Some next
   closed : Closed v next (seen ++ bytes)
 
-quoted : (v : Bool) (start : ℕ) (seen text : List ℕ) → IsUtf8 text → mode_after (Attribute v start) seen (codes "=\"" ++ (escaped text ++ codes "\"")) ≡ Some (Close v)
+quoted : (v : Bool) (start : ℕ) (seen text : List ℕ) → IsUtf8 text → mode_after (Attribute v start) seen (codes "=\"" ++ (escape_of text ++ codes "\"")) ≡ Some (Close v)
 quoted v start seen text u =
     let inside : List ℕ = seen ++ 61 ∷ [] ++ 34 ∷ [] in
-    mode_append (Value v Whole) inside (escaped text) (codes "\"") (Value v Whole) (value_mode v Whole Whole inside (escaped text) (text_through inside text u))
+    mode_append (Value v Whole) inside (escape_of text) (codes "\"") (Value v Whole) (value_mode v Whole Whole inside (escape_of text) (text_through inside text u))
 
 value_passes : (v : Bool) (mode : Mode) (seen name : List ℕ) (value : Option (List ℕ)) → IsAttributeName name → HasValue name value → Closed v mode seen
-    → AttributePasses v mode seen (32 ∷ name ++ written_value value)
+    → AttributePasses v mode seen (32 ∷ name ++ value_spelling value)
 value_passes v mode seen name None h k c =
     let n : InName v mode seen name = name_passes v mode seen name h c in record {
       next = Attribute v n.start;
@@ -134,44 +134,44 @@ value_passes v mode seen name None h k c =
 value_passes v mode seen name (Some text) h k c =
     let n : InName v mode seen name = name_passes v mode seen name h c in record {
       next = Close v;
-      through = mode_append mode seen (32 ∷ name) (written_value (Some text)) (Attribute v n.start) n.through ∙ quoted v n.start (seen ++ 32 ∷ name) text k;
-      closed = value_closed v (seen ++ (32 ∷ name ++ written_value (Some text)));
+      through = mode_append mode seen (32 ∷ name) (value_spelling (Some text)) (Attribute v n.start) n.through ∙ quoted v n.start (seen ++ 32 ∷ name) text k;
+      closed = value_closed v (seen ++ (32 ∷ name ++ value_spelling (Some text)));
     }
 
-attributes_pass : (v : Bool) (mode : Mode) (seen : List ℕ) (attributes : List Attr) → AreAttributes attributes → Closed v mode seen → AttributePasses v mode seen (written_attributes attributes)
+attributes_pass : (v : Bool) (mode : Mode) (seen : List ℕ) (attributes : List Attr) → AreAttributes attributes → Closed v mode seen → AttributePasses v mode seen (attributes_spelling attributes)
 attributes_pass v mode seen [] h c = record { next = mode; through = refl; closed = subst (Closed v mode) (sym (append-nil seen)) c }
 attributes_pass v mode seen (a ∷ more) h c =
-    let first : AttributePasses v mode seen (written_attribute a) = value_passes v mode seen a.name a.value h.0.0 h.0.1 c in
-    let rest : AttributePasses v first.next (seen ++ written_attribute a) (written_attributes more) = attributes_pass v first.next (seen ++ written_attribute a) more h.1 first.closed in
+    let first : AttributePasses v mode seen (attribute_spelling a) = value_passes v mode seen a.name a.value h.0.0 h.0.1 c in
+    let rest : AttributePasses v first.next (seen ++ attribute_spelling a) (attributes_spelling more) = attributes_pass v first.next (seen ++ attribute_spelling a) more h.1 first.closed in
     record {
       next = rest.next;
-      through = mode_append mode seen (written_attribute a) (written_attributes more) first.next first.through ∙ rest.through;
-      closed = subst (Closed v rest.next) (append_assoc seen (written_attribute a) (written_attributes more)) rest.closed;
+      through = mode_append mode seen (attribute_spelling a) (attributes_spelling more) first.next first.through ∙ rest.through;
+      closed = subst (Closed v rest.next) (append_assoc seen (attribute_spelling a) (attributes_spelling more)) rest.closed;
     }
 
 -- A tag up to its end.
 tag_passes : (name : List ℕ) (v : Bool) (attributes : List Attr) → tag_flag name ≡ Some v → AreAttributes attributes
-    → (next : Mode) × (mode_after Name (60 ∷ []) (name ++ written_attributes attributes) ≡ Some next) × Closed v next (tag_front name attributes)
+    → (next : Mode) × (mode_after Name (60 ∷ []) (name ++ attributes_spelling attributes) ≡ Some next) × Closed v next (tag_prefix name attributes)
 tag_passes name v attributes f h =
     let word : is_word start_words name ≡ true = or_right _ _ (sym (tag_name_is name) ∙ tag_of_flag name v f) in
-    let rest : AttributePasses v Name (60 ∷ name) (written_attributes attributes) = attributes_pass v Name (60 ∷ name) attributes h (name_closed name v f) in
-    (rest.next, mode_append Name (60 ∷ []) name (written_attributes attributes) Name (name_on [] name word) ∙ rest.through, rest.closed)
+    let rest : AttributePasses v Name (60 ∷ name) (attributes_spelling attributes) = attributes_pass v Name (60 ∷ name) attributes h (name_closed name v f) in
+    (rest.next, mode_append Name (60 ∷ []) name (attributes_spelling attributes) Name (name_on [] name word) ∙ rest.through, rest.closed)
 
-start_passes : (name : List ℕ) (attributes : List Attr) → IsTagName name → AreAttributes attributes → Passes (tag_front name attributes ++ codes ">")
+start_passes : (name : List ℕ) (attributes : List Attr) → IsTagName name → AreAttributes attributes → Passes (tag_prefix name attributes ++ codes ">")
 start_passes name attributes t h =
     let f : (v : Bool) × (tag_flag name ≡ Some v) = flag_of_tag name t in
-    let p : (next : Mode) × (mode_after Name (60 ∷ []) (name ++ written_attributes attributes) ≡ Some next) × Closed f.0 next (tag_front name attributes) = tag_passes name f.0 attributes f.1 h in
-    record { front = name ++ written_attributes attributes; last = 62; mode = p.0; is = refl; through = p.1; ends = p.2.ends }
+    let p : (next : Mode) × (mode_after Name (60 ∷ []) (name ++ attributes_spelling attributes) ≡ Some next) × Closed f.0 next (tag_prefix name attributes) = tag_passes name f.0 attributes f.1 h in
+    record { front = name ++ attributes_spelling attributes; last = 62; mode = p.0; is = refl; through = p.1; ends = p.2.ends }
 
-void_passes : (name : List ℕ) (attributes : List Attr) → tag_flag name ≡ Some true → AreAttributes attributes → Passes (tag_front name attributes ++ codes "/>")
+void_passes : (name : List ℕ) (attributes : List Attr) → tag_flag name ≡ Some true → AreAttributes attributes → Passes (tag_prefix name attributes ++ codes "/>")
 void_passes name attributes f h =
-    let p : (next : Mode) × (mode_after Name (60 ∷ []) (name ++ written_attributes attributes) ≡ Some next) × Closed true next (tag_front name attributes) = tag_passes name true attributes f h in
+    let p : (next : Mode) × (mode_after Name (60 ∷ []) (name ++ attributes_spelling attributes) ≡ Some next) × Closed true next (tag_prefix name attributes) = tag_passes name true attributes f h in
     record {
-      front = (name ++ written_attributes attributes) ++ 47 ∷ [];
+      front = (name ++ attributes_spelling attributes) ++ 47 ∷ [];
       last = 62;
       mode = Slash;
-      is = sym (append_assoc (tag_front name attributes) (47 ∷ []) (62 ∷ []));
-      through = mode_append Name (60 ∷ []) (name ++ written_attributes attributes) (47 ∷ []) p.0 p.1 ∙ ap (λ t. go_on t (λ m. Some m)) (p.2.slash refl);
+      is = sym (append_assoc (tag_prefix name attributes) (47 ∷ []) (62 ∷ []));
+      through = mode_append Name (60 ∷ []) (name ++ attributes_spelling attributes) (47 ∷ []) p.0 p.1 ∙ ap (λ t. go_on t (λ m. Some m)) (p.2.slash refl);
       ends = refl;
     }
 
@@ -253,7 +253,7 @@ script_passes body fine =
     }
 
 -- Each token that is no text.
-pub tok_passes : (tok : Token) → IsTok tok → is_text tok ≡ false → Passes (spelling tok)
+pub tok_passes : (tok : Token) → IsToken tok → is_text tok ≡ false → Passes (spelling tok)
 tok_passes (toks.Start name attributes from) h n = start_passes name attributes h.0 h.1
 tok_passes (toks.End name from) h n = end_passes name h
 tok_passes (toks.Void name attributes from) h n = void_passes name attributes (flag_of_void name h.0) h.1

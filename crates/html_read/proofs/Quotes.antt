@@ -6,12 +6,12 @@ use Rattle.std.proofs.lemmas.Bool.{cond-false, cases_eq, ne_eqb, and_parts, and_
 use Rattle.std.proofs.lemmas.Slice.Eq.{bytes_eq-Decides}
 use Rattle.std.proofs.lemmas.List.{take_at}
 use Rattle.fizz_text.specs.declared.attribute.Attr.{Attr}
-use Rattle.html_names.specs.Escape.{spelling_of, escaped, entities, is_open_entity}
+use Rattle.html_names.specs.Escape.{spelling_of, escape_of, entities, is_open_entity}
 use Rattle.html_names.proofs.Escaping.{each_byte, plain_spelling}
 use Rattle.html_read.specs.declared.place.Place.{Place}
 use Rattle.html_read.specs.declared.place.Place.TheVariants.{Whole, Char, Entity}
 use Rattle.html_read.specs.Names.{is_letter, continues_attribute_name, IsTagName, IsAttributeName}
-use Rattle.html_names.specs.Printing.{written_value, written_attribute, written_attributes, tag_front}
+use Rattle.html_names.specs.Printing.{value_spelling, attribute_spelling, attributes_spelling, tag_prefix}
 use Rattle.html_read.specs.Tokens.{IsAttribute, AreAttributes}
 use Rattle.html_read.specs.Faults.{IsOpenValue}
 use Rattle.html_read.specs.Machine.{is_word}
@@ -51,9 +51,9 @@ spelled_no_quote : (b : ℕ) → HasNoQuote (spelling_of b)
 spelled_no_quote = each_byte (λ b. HasNoQuote (spelling_of b)) refl refl refl refl refl
     (λ b n34 n38 n39 n60 n62. ap (list_all no_quote) (plain_spelling b n34 n38 n39 n60 n62) ∙ and_from _ _ (ap not (ne_eqb b 34 n34)) refl)
 
-pub escaped_no_quote : (text : List ℕ) → HasNoQuote (escaped text)
+pub escaped_no_quote : (text : List ℕ) → HasNoQuote (escape_of text)
 escaped_no_quote [] = refl
-escaped_no_quote (b ∷ text) = all_append no_quote (spelling_of b) (escaped text) (spelled_no_quote b) (escaped_no_quote text)
+escaped_no_quote (b ∷ text) = all_append no_quote (spelling_of b) (escape_of text) (spelled_no_quote b) (escaped_no_quote text)
 
 high_no_quote : (bs : List ℕ) → AreHigh bs → HasNoQuote bs
 high_no_quote [] h = refl
@@ -66,8 +66,8 @@ entity_no_quote e h =
 
 pub run_no_quote : (base : ℕ) (p : Place) (run : List ℕ) → HasRun base p run → HasNoQuote run
 run_no_quote base Whole run h = ap (list_all no_quote) h.is ∙ escaped_no_quote h.text
-run_no_quote base (Char tail) run h = ap (list_all no_quote) h.is ∙ all_append no_quote (escaped h.text) h.part (escaped_no_quote h.text) (high_no_quote h.part h.high)
-run_no_quote base (Entity start) run h = ap (list_all no_quote) h.is ∙ all_append no_quote (escaped h.text) h.entity (escaped_no_quote h.text) (entity_no_quote h.entity h.begun)
+run_no_quote base (Char tail) run h = ap (list_all no_quote) h.is ∙ all_append no_quote (escape_of h.text) h.part (escaped_no_quote h.text) (high_no_quote h.part h.high)
+run_no_quote base (Entity start) run h = ap (list_all no_quote) h.is ∙ all_append no_quote (escape_of h.text) h.entity (escaped_no_quote h.text) (entity_no_quote h.entity h.begun)
 
 -- Whether the last quote opens.
 abbrev pub turned : Bool → ℕ → Bool
@@ -91,22 +91,22 @@ quoted_none s (x ∷ xs) h =
     let g : (no_quote x ≡ true) × (list_all no_quote xs ≡ true) = and_parts _ _ h in
     ap (λ t. quoted t xs) (cond-false (x == 34) (not s) s (no_from_not (x == 34) g.0)) ∙ quoted_none s xs g.1
 
-quoted_value : (value : Option (List ℕ)) → quoted false (written_value value) ≡ false
+quoted_value : (value : Option (List ℕ)) → quoted false (value_spelling value) ≡ false
 quoted_value None = refl
-quoted_value (Some text) = quoted_append true (escaped text) (codes "\"") ∙ ap (λ s. quoted s (codes "\"")) (quoted_none true (escaped text) (escaped_no_quote text))
+quoted_value (Some text) = quoted_append true (escape_of text) (codes "\"") ∙ ap (λ s. quoted s (codes "\"")) (quoted_none true (escape_of text) (escaped_no_quote text))
 
-pub quoted_attribute : (a : Attr) → IsAttribute a → quoted false (written_attribute a) ≡ false
+pub quoted_attribute : (a : Attr) → IsAttribute a → quoted false (attribute_spelling a) ≡ false
 quoted_attribute a h =
-    quoted_append false (32 ∷ a.name) (written_value a.value) ∙ (ap (λ s. quoted s (written_value a.value)) (quoted_none false a.name (attribute_no_quote a.name h.0)) ∙ quoted_value a.value)
+    quoted_append false (32 ∷ a.name) (value_spelling a.value) ∙ (ap (λ s. quoted s (value_spelling a.value)) (quoted_none false a.name (attribute_no_quote a.name h.0)) ∙ quoted_value a.value)
 
-quoted_attributes : (attributes : List Attr) → AreAttributes attributes → quoted false (written_attributes attributes) ≡ false
+quoted_attributes : (attributes : List Attr) → AreAttributes attributes → quoted false (attributes_spelling attributes) ≡ false
 quoted_attributes [] h = refl
 quoted_attributes (a ∷ more) h =
-    quoted_append false (written_attribute a) (written_attributes more) ∙ (ap (λ s. quoted s (written_attributes more)) (quoted_attribute a h.0) ∙ quoted_attributes more h.1)
+    quoted_append false (attribute_spelling a) (attributes_spelling more) ∙ (ap (λ s. quoted s (attributes_spelling more)) (quoted_attribute a h.0) ∙ quoted_attributes more h.1)
 
-pub quoted_front : (name : List ℕ) (attributes : List Attr) → IsTagName name → AreAttributes attributes → quoted false (tag_front name attributes) ≡ false
+pub quoted_front : (name : List ℕ) (attributes : List Attr) → IsTagName name → AreAttributes attributes → quoted false (tag_prefix name attributes) ≡ false
 quoted_front name attributes t h =
-    quoted_append false (60 ∷ name) (written_attributes attributes) ∙ (ap (λ s. quoted s (written_attributes attributes)) (quoted_none false name (name_no_quote name (tag_name_bytes name t))) ∙ quoted_attributes attributes h)
+    quoted_append false (60 ∷ name) (attributes_spelling attributes) ∙ (ap (λ s. quoted s (attributes_spelling attributes)) (quoted_none false name (name_no_quote name (tag_name_bytes name t))) ∙ quoted_attributes attributes h)
 
 -- A rest with an open value has an open quote.
 pub open_quoted : (rest run : List ℕ) → IsOpenValue rest run → quoted false rest ≡ true
@@ -114,7 +114,7 @@ open_quoted rest run h =
     let name : List ℕ = h.0 in
     let attributes : List Attr = h.1 in
     let attribute : List ℕ = h.2 in
-    ap (quoted false) h.6 ∙ (quoted_append false (tag_front name attributes) (32 ∷ attribute ++ 61 ∷ 34 ∷ run) ∙ (ap (λ s. quoted s (32 ∷ attribute ++ 61 ∷ 34 ∷ run)) (quoted_front name attributes h.3 h.4)
+    ap (quoted false) h.6 ∙ (quoted_append false (tag_prefix name attributes) (32 ∷ attribute ++ 61 ∷ 34 ∷ run) ∙ (ap (λ s. quoted s (32 ∷ attribute ++ 61 ∷ 34 ∷ run)) (quoted_front name attributes h.3 h.4)
     ∙ (quoted_append false attribute (61 ∷ 34 ∷ run) ∙ (ap (λ s. quoted s (61 ∷ 34 ∷ run)) (quoted_none false attribute (attribute_no_quote attribute h.5)) ∙ quoted_none true run h.7))))
 
 -- What stands after the last quote.
@@ -151,9 +151,9 @@ spelled_within : (b : ℕ) → within false (spelling_of b) ≡ false
 spelled_within = each_byte (λ b. within false (spelling_of b) ≡ false) refl refl refl refl refl
     (λ b n34 n38 n39 n60 n62. ap (within false) (plain_spelling b n34 n38 n39 n60 n62) ∙ (cond-false (b == 38) true _ (ne_eqb b 38 n38) ∙ same_both (b == 59) false))
 
-escaped_within : (text : List ℕ) → within false (escaped text) ≡ false
+escaped_within : (text : List ℕ) → within false (escape_of text) ≡ false
 escaped_within [] = refl
-escaped_within (b ∷ text) = within_append false (spelling_of b) (escaped text) ∙ (ap (λ s. within s (escaped text)) (spelled_within b) ∙ escaped_within text)
+escaped_within (b ∷ text) = within_append false (spelling_of b) (escape_of text) ∙ (ap (λ s. within s (escape_of text)) (spelled_within b) ∙ escaped_within text)
 
 abbrev fronts_within : ℕ → List ℕ → Bool
 fronts_within zero e = true
@@ -186,9 +186,9 @@ open_within bytes h =
     (or_cases _ _ h5)) (or_cases _ _ h4)) (or_cases _ _ h3)) (or_cases _ _ h2)) (or_cases _ _ g.1)
 
 -- A whole escaped text does not end within a replacement.
-pub not_within : (whole text begun : List ℕ) → escaped whole ≡ escaped text ++ begun → is_open_entity begun ≡ true → ⊥
+pub not_within : (whole text begun : List ℕ) → escape_of whole ≡ escape_of text ++ begun → is_open_entity begun ≡ true → ⊥
 not_within whole text begun e h =
-    let split : within false (escaped text ++ begun) ≡ true = within_append false (escaped text) begun ∙ (ap (λ s. within s begun) (escaped_within text) ∙ open_within begun h) in
+    let split : within false (escape_of text ++ begun) ≡ true = within_append false (escape_of text) begun ∙ (ap (λ s. within s begun) (escaped_within text) ∙ open_within begun h) in
     none_true (sym (escaped_within whole) ∙ (ap (within false) e ∙ split))
 
 any_at : (test : List ℕ → Bool) (words : List (List ℕ)) (w : List ℕ) → is_word words w ≡ true → test w ≡ true → list_any test words ≡ true

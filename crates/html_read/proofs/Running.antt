@@ -5,7 +5,7 @@ use Rattle.std.proofs.lemmas.Bool.{cond-true, cond-false, cases_lt, ne_eqb, lt-l
 use Rattle.std.proofs.lemmas.List.{drop_at}
 use Rattle.std.proofs.lemmas.Str.{encode_ascii}
 use Rattle.std.proofs.Math.Utf8.{encode, encodes, scalar, scalars}
-use Rattle.html_names.specs.Escape.{spelling_of, escaped, entities}
+use Rattle.html_names.specs.Escape.{spelling_of, escape_of, entities}
 use Rattle.html_names.proofs.Escaping.{each_byte, plain_spelling}
 use Rattle.html_read.specs.declared.place.Place.{Place}
 use Rattle.html_read.specs.declared.place.Place.TheVariants.{Whole, Entity}
@@ -66,22 +66,22 @@ path_high : (p : Place) (bs : List ℕ) (q : Place) → Path p bs q → AreHigh 
 path_high p [] q h = tt
 path_high p (b ∷ bs) q h = (h.1, path_high h.0 bs q h.3)
 
-char_through : (token : List ℕ) (c : ℕ) → scalar c ≡ true → place_through Whole token (escaped (encode c)) ≡ Ok Whole
+char_through : (token : List ℕ) (c : ℕ) → scalar c ≡ true → place_through Whole token (escape_of (encode c)) ≡ Ok Whole
 char_through token c s =
-    ⊎_elim (λ l. ap (λ x. place_through Whole token (escaped x)) (encode_ascii c l) ∙ (ap (place_through Whole token) (append-nil (spelling_of c)) ∙ ascii_through token c l)) (λ h.
+    ⊎_elim (λ l. ap (λ x. place_through Whole token (escape_of x)) (encode_ascii c l) ∙ (ap (place_through Whole token) (append-nil (spelling_of c)) ∙ ascii_through token c l)) (λ h.
     let path : Path Whole (encode c) Whole = char_path c h s in
     ap (place_through Whole token) (high_escaped (encode c) (path_high Whole (encode c) Whole path)) ∙ path_place Whole token (encode c) Whole path) (cases_lt c 128)
 
-encodes_through : (token : List ℕ) (cs : List ℕ) → scalars cs ≡ true → place_through Whole token (escaped (encodes cs)) ≡ Ok Whole
+encodes_through : (token : List ℕ) (cs : List ℕ) → scalars cs ≡ true → place_through Whole token (escape_of (encodes cs)) ≡ Ok Whole
 encodes_through token [] s = refl
 encodes_through token (c ∷ cs) s =
     let p : (scalar c ≡ true) × (scalars cs ≡ true) = and_parts _ _ s in
-    ap (place_through Whole token) (escaped_append (encode c) (encodes cs)) ∙ (place_append Whole token (escaped (encode c)) (escaped (encodes cs)) Whole (char_through token c p.0)
-    ∙ encodes_through (token ++ escaped (encode c)) cs p.1)
+    ap (place_through Whole token) (escaped_append (encode c) (encodes cs)) ∙ (place_append Whole token (escape_of (encode c)) (escape_of (encodes cs)) Whole (char_through token c p.0)
+    ∙ encodes_through (token ++ escape_of (encode c)) cs p.1)
 
 -- An escaped text leads from a whole place to a whole place.
-pub text_through : (token text : List ℕ) → IsUtf8 text → place_through Whole token (escaped text) ≡ Ok Whole
-text_through token text u = ap (λ x. place_through Whole token (escaped x)) (sym u.1.1) ∙ encodes_through token u.0 u.1.0
+pub text_through : (token text : List ℕ) → IsUtf8 text → place_through Whole token (escape_of text) ≡ Ok Whole
+text_through token text u = ap (λ x. place_through Whole token (escape_of x)) (sym u.1.1) ∙ encodes_through token u.0 u.1.0
 
 some_same : (m n : Mode) → ◌≡◌ {A = Option Mode} (Some m) (Some n) → m ≡ n
 some_same m n e = cc

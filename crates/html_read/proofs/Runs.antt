@@ -7,7 +7,7 @@ use Rattle.std.proofs.lemmas.List.{drop_at}
 use Rattle.std.proofs.lemmas.List.Concat.{flat_map-append}
 use Rattle.std.proofs.lemmas.Slice.Eq.{bytes_eq-Decides}
 use Rattle.std.proofs.lemmas.Str.{IsUtf8-append}
-use Rattle.html_names.specs.Escape.{spelling_of, escaped, entities}
+use Rattle.html_names.specs.Escape.{spelling_of, escape_of, entities}
 use Rattle.html_names.proofs.Escaping.{plain_spelling}
 use Rattle.html_names.proofs.Utf8.{utf8_ascii}
 use Rattle.html_read.specs.declared.place.Tail.{Tail}
@@ -33,11 +33,11 @@ high_append (x ∷ xs) ys h k = (h.0, high_append xs ys h.1 k)
 pub high_spelling : (b : ℕ) → 128 ≤ b → spelling_of b ≡ b ∷ []
 high_spelling b h = plain_spelling b (λ e. omega arith) (λ e. omega arith) (λ e. omega arith) (λ e. omega arith) (λ e. omega arith)
 
-pub high_escaped : (bs : List ℕ) → AreHigh bs → escaped bs ≡ bs
+pub high_escaped : (bs : List ℕ) → AreHigh bs → escape_of bs ≡ bs
 high_escaped [] h = refl
 high_escaped (b ∷ bs) h = (λ i. high_spelling b h.0 i ++ high_escaped bs h.1 i)
 
-pub escaped_append : (a b : List ℕ) → escaped (a ++ b) ≡ escaped a ++ escaped b
+pub escaped_append : (a b : List ℕ) → escape_of (a ++ b) ≡ escape_of a ++ escape_of b
 escaped_append a b = flat_map-append spelling_of a b
 
 pub record IsOpenEntity (e : List ℕ) : Type 0 where
@@ -49,7 +49,7 @@ pub record IsOpenEntity (e : List ℕ) : Type 0 where
 pub record HasWhole (run : List ℕ) : Type 0 where
   pub text : List ℕ
   pub utf8 : IsUtf8 text
-  pub is : run ≡ escaped text
+  pub is : run ≡ escape_of text
 
 pub record HasChar (tail : Tail) (run : List ℕ) : Type 0 where
   pub text : List ℕ
@@ -58,15 +58,15 @@ pub record HasChar (tail : Tail) (run : List ℕ) : Type 0 where
   pub wants : IsPart tail part
   pub through : chars_through Whole part ≡ Ok (Char tail)
   pub high : AreHigh part
-  pub is : run ≡ escaped text ++ part
+  pub is : run ≡ escape_of text ++ part
 
 pub record HasEntity (base start : ℕ) (run : List ℕ) : Type 0 where
   pub text : List ℕ
   pub entity : List ℕ
   pub utf8 : IsUtf8 text
   pub begun : IsOpenEntity entity
-  pub starts : start ≡ base + length (escaped text)
-  pub is : run ≡ escaped text ++ entity
+  pub starts : start ≡ base + length (escape_of text)
+  pub is : run ≡ escape_of text ++ entity
 
 abbrev pub HasRun : ℕ → Place → List ℕ → Type 0
 HasRun base Whole run = HasWhole run
@@ -75,11 +75,11 @@ HasRun base (Entity start) run = HasEntity base start run
 
 -- A part of a character, or a character, at the end of a run.
 char_joins : (base : ℕ) (text part run : List ℕ) (place : Place) → IsUtf8 text → AreHigh part → IsCharPlace part place → chars_through Whole part ≡ Ok place
-    → run ≡ escaped text ++ part → HasRun base place run
+    → run ≡ escape_of text ++ part → HasRun base place run
 char_joins base text part run Whole u h c through e = record {
   text = text ++ part;
   utf8 = IsUtf8-append text part u c;
-  is = e ∙ sym (escaped_append text part ∙ ap (λ p. escaped text ++ p) (high_escaped part h));
+  is = e ∙ sym (escaped_append text part ∙ ap (λ p. escape_of text ++ p) (high_escaped part h));
 }
 char_joins base text part run (Char tail) u h c through e = record { text = text; part = part; utf8 = u; wants = c; through = through; high = h; is = e }
 char_joins base text part run (Entity start) u h c through e = absurd c
@@ -109,8 +109,8 @@ entity_word w h1 =
 ascii_text : (c : ℕ) → c < 128 → IsUtf8 (c ∷ [])
 ascii_text c l = utf8_ascii (c ∷ []) (l, tt)
 
-text_push : (text : List ℕ) (c : ℕ) (w : List ℕ) → spelling_of c ≡ w → escaped (text ++ c ∷ []) ≡ escaped text ++ w
-text_push text c w e = escaped_append text (c ∷ []) ∙ ap (λ s. escaped text ++ s) (append-nil (spelling_of c) ∙ e)
+text_push : (text : List ℕ) (c : ℕ) (w : List ℕ) → spelling_of c ≡ w → escape_of (text ++ c ∷ []) ≡ escape_of text ++ w
+text_push text c w e = escaped_append text (c ∷ []) ∙ ap (λ s. escape_of text ++ s) (append-nil (spelling_of c) ∙ e)
 
 abbrev Keeps : ℕ → List ℕ → Result Place RunFault → Type 0
 Keeps base run r = (q : Place) → r ≡ Ok q → HasRun base q run
@@ -130,7 +130,7 @@ whole_keeps base len b run h l =
       entity = b ∷ [];
       utf8 = h.utf8;
       begun = subst (λ x. IsOpenEntity (x ∷ [])) (sym is38) (record { begun = refl; open_still = refl; some = omega arith });
-      starts = let n : length run ≡ length (escaped h.text) = ap length h.is in omega arith;
+      starts = let n : length run ≡ length (escape_of h.text) = ap length h.is in omega arith;
       is = ap (λ r. r ++ b ∷ []) h.is;
     })) (λ n38.
     cond_both (b == 34 || (b == 39 || (b == 60 || b == 62))) _ _ (Keeps base (run ++ b ∷ [])) (λ e. keeps_err base (run ++ b ∷ []) faults.Byte) (λ n.
@@ -166,12 +166,12 @@ char_keeps base b tail run h q s =
     let high : 128 ≤ b = tail_high tail b q s in
     char_joins base h.text (h.part ++ b ∷ []) (run ++ b ∷ []) q h.utf8 (high_append h.part (b ∷ []) h.high (high, tt)) (tail_gives tail h.part b q h.wants s)
     (chars_append Whole h.part (b ∷ []) ∙ (ap (λ r. on_place r (λ p. chars_through p (b ∷ []))) h.through ∙ ap (λ r. on_place r (λ p. chars_through p [])) s))
-    (ap (λ r. r ++ b ∷ []) h.is ∙ append_assoc (escaped h.text) h.part (b ∷ []))
+    (ap (λ r. r ++ b ∷ []) h.is ∙ append_assoc (escape_of h.text) h.part (b ∷ []))
 
 entity_keeps : (base b start : ℕ) (run : List ℕ) (h : HasEntity base start run) → Keeps base (run ++ b ∷ []) (entity_after start (h.entity ++ b ∷ []) b)
 entity_keeps base b start run h =
     let e : List ℕ = h.entity ++ b ∷ [] in
-    let joined : run ++ b ∷ [] ≡ escaped h.text ++ e = ap (λ r. r ++ b ∷ []) h.is ∙ append_assoc (escaped h.text) h.entity (b ∷ []) in
+    let joined : run ++ b ∷ [] ≡ escape_of h.text ++ e = ap (λ r. r ++ b ∷ []) h.is ∙ append_assoc (escape_of h.text) h.entity (b ∷ []) in
     cond_both (is_word entities e) _ _ (Keeps base (run ++ b ∷ [])) (λ w.
     let s : IsSpelled e = entity_word e w in
     keeps_ok base (run ++ b ∷ []) Whole (record {
@@ -193,9 +193,9 @@ entity_keeps base b start run h =
 -- what stands from the start of the entity on
 pub entity_at : (front : List ℕ) (b start : ℕ) (run : List ℕ) (h : HasEntity (length front) start run) → drop start (front ++ run ++ b ∷ []) ≡ h.entity ++ b ∷ []
 entity_at front b start run h =
-    let split : front ++ run ++ b ∷ [] ≡ (front ++ escaped h.text) ++ (h.entity ++ b ∷ []) =
-    ap (λ r. front ++ r ++ b ∷ []) h.is ∙ (ap (λ r. r ++ b ∷ []) (sym (append_assoc front (escaped h.text) h.entity)) ∙ append_assoc (front ++ escaped h.text) h.entity (b ∷ [])) in
-    ap (drop start) split ∙ drop_at (front ++ escaped h.text) (h.entity ++ b ∷ []) start (length-append front (escaped h.text) ∙ sym h.starts)
+    let split : front ++ run ++ b ∷ [] ≡ (front ++ escape_of h.text) ++ (h.entity ++ b ∷ []) =
+    ap (λ r. front ++ r ++ b ∷ []) h.is ∙ (ap (λ r. r ++ b ∷ []) (sym (append_assoc front (escape_of h.text) h.entity)) ∙ append_assoc (front ++ escape_of h.text) h.entity (b ∷ [])) in
+    ap (drop start) split ∙ drop_at (front ++ escape_of h.text) (h.entity ++ b ∷ []) start (length-append front (escape_of h.text) ∙ sym h.starts)
 
 -- A byte keeps what the place says.
 pub place_keeps : (front run : List ℕ) (p q : Place) (b : ℕ) → HasRun (length front) p run → place_after p (front ++ run ++ b ∷ []) b ≡ Ok q → HasRun (length front) q (run ++ b ∷ [])
@@ -216,7 +216,7 @@ pub record Completes (run : List ℕ) : Type 0 where
   pub more : List ℕ
   pub text : List ℕ
   pub utf8 : IsUtf8 text
-  pub is : run ++ more ≡ escaped text
+  pub is : run ++ more ≡ escape_of text
 
 pub run_completes : (base : ℕ) (p : Place) (run : List ℕ) → HasRun base p run → Completes run
 run_completes base Whole run h = record { more = []; text = h.text; utf8 = h.utf8; is = append-nil run ∙ h.is }
@@ -226,7 +226,7 @@ run_completes base (Char tail) run h =
       more = c.0;
       text = h.text ++ (h.part ++ c.0);
       utf8 = IsUtf8-append h.text (h.part ++ c.0) h.utf8 c.1;
-      is = ap (λ r. r ++ c.0) h.is ∙ (append_assoc (escaped h.text) h.part c.0 ∙ sym (escaped_append h.text (h.part ++ c.0) ∙ ap (λ r. escaped h.text ++ r) (high_escaped (h.part ++ c.0) (high_append h.part c.0 h.high c.2))));
+      is = ap (λ r. r ++ c.0) h.is ∙ (append_assoc (escape_of h.text) h.part c.0 ∙ sym (escaped_append h.text (h.part ++ c.0) ∙ ap (λ r. escape_of h.text ++ r) (high_escaped (h.part ++ c.0) (high_append h.part c.0 h.high c.2))));
     }
 run_completes base (Entity start) run h =
     let g : (rest : List ℕ) × (is_word entities (h.entity ++ rest) ≡ true) = begins_gives entities h.entity h.begun.begun in
@@ -235,5 +235,5 @@ run_completes base (Entity start) run h =
       more = g.0;
       text = h.text ++ s.byte ∷ [];
       utf8 = IsUtf8-append h.text (s.byte ∷ []) h.utf8 (ascii_text s.byte s.ascii);
-      is = ap (λ r. r ++ g.0) h.is ∙ (append_assoc (escaped h.text) h.entity g.0 ∙ sym (text_push h.text s.byte (h.entity ++ g.0) s.is));
+      is = ap (λ r. r ++ g.0) h.is ∙ (append_assoc (escape_of h.text) h.entity g.0 ∙ sym (text_push h.text s.byte (h.entity ++ g.0) s.is));
     }

@@ -4,7 +4,7 @@ use Rattle.std.proofs.lemmas.Bool.{cases_Bool, ne_eqb, true≢false}
 use Rattle.std.proofs.lemmas.List.Concat.{flat_map-append}
 use Rattle.std.proofs.lemmas.List.{take_at}
 use Rattle.std.proofs.lemmas.Str.{IsUtf8-nil}
-use Rattle.html_names.specs.Escape.{spelling_of, escaped}
+use Rattle.html_names.specs.Escape.{spelling_of, escape_of}
 use Rattle.html_names.proofs.Escaping.{each_byte, plain_spelling}
 use Rattle.html_read.specs.declared.token.Token.{Token}
 use Rattle.html_read.specs.declared.token.Token.TheVariants as toks
@@ -14,7 +14,7 @@ use Rattle.html_read.specs.declared.machine.Mode.{Mode}
 use Rattle.html_read.specs.declared.machine.Mode.TheVariants.{Text, Name}
 use Rattle.html_read.specs.declared.machine.Turn.{Turn}
 use Rattle.html_read.specs.declared.machine.Turn.TheVariants.{Goes, Ends, Cuts, Fails}
-use Rattle.html_read.specs.Tokens.{spelling, spellings, IsTok, AreTokensFrom, AreTokens, MayFollow, place_of, is_text}
+use Rattle.html_read.specs.Tokens.{spelling, spellings, IsToken, AreTokensFrom, AreTokens, MayFollow, place_of, is_text}
 use Rattle.html_read.specs.Faults.{IsAlive, IsFirstDead, IsBegun, begins_tag, ends_in_text, Splits}
 use Rattle.html_read.specs.Machine.{turn_of, go_on, mode_after, mode_of}
 use Rattle.html_read.proofs.WordFronts.{none_true}
@@ -63,7 +63,7 @@ mode_more mode next rest b e t = mode_append (Text Whole) [] rest (b ∷ []) mod
 pub spellings_push : (toks : List Token) (tok : Token) → spellings (toks ++ tok ∷ []) ≡ spellings toks ++ spelling tok
 spellings_push toks tok = flat_map-append spelling toks (tok ∷ []) ∙ ap (λ s. spellings toks ++ s) (append-nil (spelling tok))
 
-pub tokens_push : (toks : List Token) (tok : Token) (place : ℕ) (after : Bool) → AreTokensFrom place after toks → IsTok tok → place_of tok ≡ place + length (spellings toks)
+pub tokens_push : (toks : List Token) (tok : Token) (place : ℕ) (after : Bool) → AreTokensFrom place after toks → IsToken tok → place_of tok ≡ place + length (spellings toks)
     → MayFollow (ends_in_text after toks) (is_text tok) → AreTokensFrom place after (toks ++ tok ∷ [])
 tokens_push [] tok place after h t p m = (t, p ∙ add-zero place, m, tt)
 tokens_push (x ∷ toks) tok place after h t p m =
@@ -116,7 +116,7 @@ pub ending : (mode : Mode) (rest : List ℕ) (b from : ℕ) → mode_of rest ≡
 ending mode rest b from e t = turn_gives mode rest b Ends e t from
 
 pub ends : (bytes : List ℕ) (toks : List Token) (mode : Mode) (rest : List ℕ) (b : ℕ) (tok : Token) → Stands bytes toks mode rest
-    → IsTok tok → rest ++ b ∷ [] ≡ spelling tok → is_text tok ≡ false → place_of tok ≡ length (spellings toks) → Stands (bytes ++ b ∷ []) (toks ++ tok ∷ []) (Text Whole) []
+    → IsToken tok → rest ++ b ∷ [] ≡ spelling tok → is_text tok ≡ false → place_of tok ≡ length (spellings toks) → Stands (bytes ++ b ∷ []) (toks ++ tok ∷ []) (Text Whole) []
 ends bytes toks mode rest b tok s t is other place = record {
   whole = ap (λ x. x ++ b ∷ []) s.whole ∙ (append_assoc (spellings toks) rest (b ∷ []) ∙ (ap (λ x. spellings toks ++ x) is ∙ (sym (spellings_push toks tok) ∙ sym (append-nil (spellings (toks ++ tok ∷ []))))));
   tokens = tokens_push toks tok 0 false s.tokens t (place ∙ omega arith) (subst (MayFollow (ends_in_text false toks)) (sym other) (other_follows (ends_in_text false toks)));
@@ -133,20 +133,20 @@ spelled_no_tag more = each_byte (λ b. begins_tag (spelling_of b ++ more) ≡ fa
     (λ b n34 n38 n39 n60 n62. ap (λ s. begins_tag (s ++ more)) (plain_spelling b n34 n38 n39 n60 n62) ∙ ne_eqb b 60 n60)
 
 -- An escaped text has no `<`.
-pub escaped_no_tag : (text more : List ℕ) → begins_tag more ≡ false → begins_tag (escaped text ++ more) ≡ false
+pub escaped_no_tag : (text more : List ℕ) → begins_tag more ≡ false → begins_tag (escape_of text ++ more) ≡ false
 escaped_no_tag [] more h = h
-escaped_no_tag (b ∷ text) more h = ap begins_tag (append_assoc (spelling_of b) (escaped text) more) ∙ spelled_no_tag (escaped text ++ more) b
+escaped_no_tag (b ∷ text) more h = ap begins_tag (append_assoc (spelling_of b) (escape_of text) more) ∙ spelled_no_tag (escape_of text ++ more) b
 
 pub text_no_tag : (tok : Token) (rest : List ℕ) → is_text tok ≡ true → rest ≡ spelling tok → begins_tag rest ≡ false
 text_no_tag (toks.Start name attributes from) rest t e = absurd (none_true t)
 text_no_tag (toks.End name from) rest t e = absurd (none_true t)
 text_no_tag (toks.Void name attributes from) rest t e = absurd (none_true t)
-text_no_tag (toks.Text text from) rest t e = ap begins_tag (e ∙ sym (append-nil (escaped text))) ∙ escaped_no_tag text [] refl
+text_no_tag (toks.Text text from) rest t e = ap begins_tag (e ∙ sym (append-nil (escape_of text))) ∙ escaped_no_tag text [] refl
 text_no_tag (toks.Comment which from) rest t e = absurd (none_true t)
 text_no_tag (toks.Script body from) rest t e = absurd (none_true t)
 
 pub cuts : (bytes : List ℕ) (toks : List Token) (mode : Mode) (rest : List ℕ) (b : ℕ) (tok : Token) → Stands bytes toks mode rest
-    → b ≡ 60 → IsTok tok → rest ≡ spelling tok → is_text tok ≡ true → place_of tok ≡ length (spellings toks) → Stands (bytes ++ b ∷ []) (toks ++ tok ∷ []) Name (b ∷ [])
+    → b ≡ 60 → IsToken tok → rest ≡ spelling tok → is_text tok ≡ true → place_of tok ≡ length (spellings toks) → Stands (bytes ++ b ∷ []) (toks ++ tok ∷ []) Name (b ∷ [])
 cuts bytes toks mode rest b tok s is60 t is text place =
     let before : ends_in_text false toks ≡ false = ⊎_elim (λ e. absurd (none_true (sym (text_no_tag tok rest text is) ∙ s.ended e))) (λ f. f) (cases_Bool (ends_in_text false toks)) in
     record {
@@ -159,7 +159,7 @@ cuts bytes toks mode rest b tok s is60 t is text place =
 -- Another place for a token.
 record IsMoved (place : ℕ) (tok : Token) : Type 0 where
   to : Token
-  is_tok : IsTok tok → IsTok to
+  is_tok : IsToken tok → IsToken to
   spelled : spelling to ≡ spelling tok
   text : is_text to ≡ is_text tok
   place_is : place_of to ≡ place

@@ -5,7 +5,7 @@ use Rattle.std.specs.Str.{bytes_eq}
 use Rattle.std.proofs.lemmas.Bool.{cond-true, cases_Bool, ne_eqb, eqb-true, eqb-false, and_left, and_parts, and_from, false_from_ne_true}
 use Rattle.std.proofs.lemmas.List.{append_cancel_right, append_cancel_left, take_at, nil_from_length}
 use Rattle.fizz_text.specs.declared.attribute.Attr.{Attr}
-use Rattle.html_names.specs.Escape.{spelling_of, escaped}
+use Rattle.html_names.specs.Escape.{spelling_of, escape_of}
 use Rattle.html_names.proofs.Escaping.{each_byte, plain_spelling, escaped_injective, spelling_some}
 use Rattle.html_names.specs.declared.comments.CommentKind.{CommentKind}
 use Rattle.html_names.specs.declared.comments.CommentKind.TheVariants as kind
@@ -16,9 +16,9 @@ use Rattle.html_read.specs.declared.machine.Mode.TheVariants as modes
 use Rattle.html_read.specs.declared.machine.Turn.{Turn}
 use Rattle.html_read.specs.declared.machine.Turn.TheVariants.{Goes, Ends, Cuts, Fails}
 use Rattle.html_read.specs.Names.{continues_attribute_name, IsTagName}
-use Rattle.html_names.specs.Printing.{written_value, written_attribute, written_attributes, tag_front}
+use Rattle.html_names.specs.Printing.{value_spelling, attribute_spelling, attributes_spelling, tag_prefix}
 use Rattle.html_names.specs.Comments.{comment_data}
-use Rattle.html_read.specs.Tokens.{IsAttribute, AreAttributes, script_end, spelling, spellings, IsTok, AreTokensFrom, MayFollow, AreTokens, Tokenizes, place_of, is_text}
+use Rattle.html_read.specs.Tokens.{IsAttribute, AreAttributes, script_end, spelling, spellings, IsToken, AreTokensFrom, MayFollow, AreTokens, Tokenizes, place_of, is_text}
 use Rattle.html_read.specs.Faults.{begins_tag, ends_in_text, IsBegun, Splits}
 use Rattle.html_read.specs.Building.{front_len, IsTokenOf, EndsAttribute, EndsTag, IsTagOf}
 use Rattle.html_read.specs.Machine.{go_on, mode_after}
@@ -44,37 +44,37 @@ not_61 : (more : List ℕ) (xs : List ℕ) → EndsAttribute more → more ≡ 6
 not_61 [] xs h e = h
 not_61 (b ∷ bs) xs h e = h.1 (heads_same b 61 bs xs e)
 
-values_same : (a b : Option (List ℕ)) (more others : List ℕ) → EndsAttribute more → EndsAttribute others → written_value a ++ more ≡ written_value b ++ others → (a ≡ b) × (more ≡ others)
+values_same : (a b : Option (List ℕ)) (more others : List ℕ) → EndsAttribute more → EndsAttribute others → value_spelling a ++ more ≡ value_spelling b ++ others → (a ≡ b) × (more ≡ others)
 values_same None None more others h k e = (refl, e)
 values_same None (Some y) more others h k e = absurd (not_61 more _ h e)
 values_same (Some x) None more others h k e = absurd (not_61 others _ k (sym e))
 values_same (Some x) (Some y) more others h k e =
-    let inner : escaped x ++ 34 ∷ more ≡ escaped y ++ 34 ∷ others =
-    sym (append_assoc (escaped x) (34 ∷ []) more) ∙ (tails_same 34 34 _ _ (tails_same 61 61 _ _ e) ∙ append_assoc (escaped y) (34 ∷ []) others) in
-    let quoted : List ℕ = escaped x ++ 34 ∷ more in
+    let inner : escape_of x ++ 34 ∷ more ≡ escape_of y ++ 34 ∷ others =
+    sym (append_assoc (escape_of x) (34 ∷ []) more) ∙ (tails_same 34 34 _ _ (tails_same 61 61 _ _ e) ∙ append_assoc (escape_of y) (34 ∷ []) others) in
+    let quoted : List ℕ = escape_of x ++ 34 ∷ more in
     let n : ℕ = front_len (λ b. not (b == 34)) quoted in
-    let here : (take n quoted ≡ escaped x) × (drop n quoted ≡ 34 ∷ more) = value_cut x more quoted n refl refl in
-    let there : (take n quoted ≡ escaped y) × (drop n quoted ≡ 34 ∷ others) = value_cut y others quoted n inner refl in
+    let here : (take n quoted ≡ escape_of x) × (drop n quoted ≡ 34 ∷ more) = value_cut x more quoted n refl refl in
+    let there : (take n quoted ≡ escape_of y) × (drop n quoted ≡ 34 ∷ others) = value_cut y others quoted n inner refl in
     (ap (λ t. Some t) (escaped_injective x y (sym here.0 ∙ there.0)), tails_same 34 34 more others (sym here.1 ∙ there.1))
 
-attribute_same : (a b : Attr) (more others : List ℕ) → IsAttribute a → IsAttribute b → EndsAttribute more → EndsAttribute others → written_attribute a ++ more ≡ written_attribute b ++ others → Same a b more others
+attribute_same : (a b : Attr) (more others : List ℕ) → IsAttribute a → IsAttribute b → EndsAttribute more → EndsAttribute others → attribute_spelling a ++ more ≡ attribute_spelling b ++ others → Same a b more others
 attribute_same a b more others h k m o e =
-    let bytes : List ℕ = written_attribute a ++ more in
+    let bytes : List ℕ = attribute_spelling a ++ more in
     let n : ℕ = front_len continues_attribute_name (drop 1 bytes) in
-    let here : Cut (drop 1 bytes) n a.name (written_value a.value ++ more) = attribute_cut a.name a.value more bytes (drop 1 bytes) n h.0 m refl refl refl in
-    let there : Cut (drop 1 bytes) n b.name (written_value b.value ++ others) = attribute_cut b.name b.value others bytes (drop 1 bytes) n k.0 o e refl refl in
+    let here : Cut (drop 1 bytes) n a.name (value_spelling a.value ++ more) = attribute_cut a.name a.value more bytes (drop 1 bytes) n h.0 m refl refl refl in
+    let there : Cut (drop 1 bytes) n b.name (value_spelling b.value ++ others) = attribute_cut b.name b.value others bytes (drop 1 bytes) n k.0 o e refl refl in
     let names : a.name ≡ b.name = sym here.front ∙ there.front in
     let values : (a.value ≡ b.value) × (more ≡ others) = values_same a.value b.value more others m o (sym here.back ∙ there.back) in
     record { attribute = (λ i. record { name = names i; value = values.0 i }); rest = values.1 }
 
-attributes_same : (xs ys : List Attr) (tail other : List ℕ) → AreAttributes xs → AreAttributes ys → EndsTag tail → EndsTag other → written_attributes xs ++ tail ≡ written_attributes ys ++ other → (xs ≡ ys) × (tail ≡ other)
+attributes_same : (xs ys : List Attr) (tail other : List ℕ) → AreAttributes xs → AreAttributes ys → EndsTag tail → EndsTag other → attributes_spelling xs ++ tail ≡ attributes_spelling ys ++ other → (xs ≡ ys) × (tail ≡ other)
 attributes_same [] [] tail other h k t o e = (refl, e)
 attributes_same [] (y ∷ ys) tail other h k t o e = absurd (t.1 _ e)
 attributes_same (x ∷ xs) [] tail other h k t o e = absurd (o.1 _ (sym e))
 attributes_same (x ∷ xs) (y ∷ ys) tail other h k t o e =
-    let split : written_attribute x ++ (written_attributes xs ++ tail) ≡ written_attribute y ++ (written_attributes ys ++ other) =
-    sym (append_assoc (written_attribute x) (written_attributes xs) tail) ∙ (e ∙ append_assoc (written_attribute y) (written_attributes ys) other) in
-    let first : Same x y (written_attributes xs ++ tail) (written_attributes ys ++ other) = attribute_same x y _ _ h.0 k.0 (rest_ends xs tail t) (rest_ends ys other o) split in
+    let split : attribute_spelling x ++ (attributes_spelling xs ++ tail) ≡ attribute_spelling y ++ (attributes_spelling ys ++ other) =
+    sym (append_assoc (attribute_spelling x) (attributes_spelling xs) tail) ∙ (e ∙ append_assoc (attribute_spelling y) (attributes_spelling ys) other) in
+    let first : Same x y (attributes_spelling xs ++ tail) (attributes_spelling ys ++ other) = attribute_same x y _ _ h.0 k.0 (rest_ends xs tail t) (rest_ends ys other o) split in
     let rest : (xs ≡ ys) × (tail ≡ other) = attributes_same xs ys tail other h.1 k.1 t o first.rest in
     ((λ i. first.attribute i ∷ rest.0 i), rest.1)
 
@@ -84,12 +84,12 @@ record SameTag (name other : List ℕ) (xs ys : List Attr) (tail end : List ℕ)
   tails : tail ≡ end
 
 tag_same : (name other : List ℕ) (xs ys : List Attr) (tail end : List ℕ) → IsTagName name → IsTagName other → AreAttributes xs → AreAttributes ys → EndsTag tail → EndsTag end
-    → tag_front name xs ++ tail ≡ tag_front other ys ++ end → SameTag name other xs ys tail end
+    → tag_prefix name xs ++ tail ≡ tag_prefix other ys ++ end → SameTag name other xs ys tail end
 tag_same name other xs ys tail end t u h k m o e =
-    let bytes : List ℕ = tag_front name xs ++ tail in
+    let bytes : List ℕ = tag_prefix name xs ++ tail in
     let n : ℕ = front_len continues_attribute_name (drop 1 bytes) in
-    let here : Cut (drop 1 bytes) n name (written_attributes xs ++ tail) = tag_cut name xs tail bytes (drop 1 bytes) n t m refl refl refl in
-    let there : Cut (drop 1 bytes) n other (written_attributes ys ++ end) = tag_cut other ys end bytes (drop 1 bytes) n u o e refl refl in
+    let here : Cut (drop 1 bytes) n name (attributes_spelling xs ++ tail) = tag_cut name xs tail bytes (drop 1 bytes) n t m refl refl refl in
+    let there : Cut (drop 1 bytes) n other (attributes_spelling ys ++ end) = tag_cut other ys end bytes (drop 1 bytes) n u o e refl refl in
     let rest : (xs ≡ ys) × (tail ≡ end) = attributes_same xs ys tail end h k m o (sym here.back ∙ there.back) in
     record { names = sym here.front ∙ there.front; attributes = rest.0; tails = rest.1 }
 
@@ -122,14 +122,14 @@ no_less : (bytes : List ℕ) → begins_tag bytes ≡ false → starts_with nat_
 no_less [] h = refl
 no_less (b ∷ bs) h = and_left (nat_eq 60 b) true (ne_eqb 60 b (λ e. eqb-false b 60 h (sym e)))
 
-text_starts : (text : List ℕ) → starts_with nat_eq (escaped text) (codes "<") ≡ false
-text_starts text = no_less (escaped text) (ap begins_tag (sym (append-nil (escaped text))) ∙ escaped_no_tag text [] refl)
+text_starts : (text : List ℕ) → starts_with nat_eq (escape_of text) (codes "<") ≡ false
+text_starts text = no_less (escape_of text) (ap begins_tag (sym (append-nil (escape_of text))) ∙ escaped_no_tag text [] refl)
 
 -- A tag begins as no other token does.
 no_prefix : (bytes needle : List ℕ) → ((more : List ℕ) → bytes ≡ needle ++ more → ⊥) → starts_with nat_eq bytes needle ≡ false
 no_prefix bytes needle n = false_from_ne_true _ (λ h. n (drop (length needle) bytes) (prefix_is bytes needle h))
 
-tag_found : (bytes : List ℕ) (from : ℕ) (found : Option Token) (name : List ℕ) (attributes : List Attr) (tail : List ℕ) → IsTagName name → EndsTag tail → bytes ≡ tag_front name attributes ++ tail → IsTagOf bytes from found
+tag_found : (bytes : List ℕ) (from : ℕ) (found : Option Token) (name : List ℕ) (attributes : List Attr) (tail : List ℕ) → IsTagName name → EndsTag tail → bytes ≡ tag_prefix name attributes ++ tail → IsTagOf bytes from found
     → IsTokenOf bytes from found
 tag_found bytes from found name attributes tail t ends e is =
     tag_branch bytes from found (ap (λ x. starts_with nat_eq x (codes "<")) e)
@@ -137,7 +137,7 @@ tag_found bytes from found name attributes tail t ends e is =
     (no_prefix bytes (codes "<!") (λ more k. tag_at name attributes tail more 33 t refl (sym e ∙ k)))
     (no_prefix bytes (codes "<script>") (λ more k. no_script_tag name attributes tail more t ends (sym e ∙ k))) is
 
-start_of : (name : List ℕ) (attributes : List Attr) (from : ℕ) → IsTagName name → AreAttributes attributes → IsTagOf (tag_front name attributes ++ codes ">") from (Some (Start name attributes from))
+start_of : (name : List ℕ) (attributes : List Attr) (from : ℕ) → IsTagName name → AreAttributes attributes → IsTagOf (tag_prefix name attributes ++ codes ">") from (Some (Start name attributes from))
 start_of name attributes from t h = record {
   start = λ other ys u k e. let s : SameTag name other attributes ys (codes ">") (codes ">") = tag_same name other attributes ys (codes ">") (codes ">") t u h k start_ends start_ends e in
       (λ i. Some (Start (s.names i) (s.attributes i) from));
@@ -145,7 +145,7 @@ start_of name attributes from t h = record {
       absurd (not_ends s.tails);
 }
 
-void_of : (name : List ℕ) (attributes : List Attr) (from : ℕ) → IsTagName name → AreAttributes attributes → IsTagOf (tag_front name attributes ++ codes "/>") from (Some (Void name attributes from))
+void_of : (name : List ℕ) (attributes : List Attr) (from : ℕ) → IsTagName name → AreAttributes attributes → IsTagOf (tag_prefix name attributes ++ codes "/>") from (Some (Void name attributes from))
 void_of name attributes from t h = record {
   start = λ other ys u k e. let s : SameTag name other attributes ys (codes "/>") (codes ">") = tag_same name other attributes ys (codes "/>") (codes ">") t u h k void_ends start_ends e in
       absurd (not_ends (sym s.tails));
@@ -154,7 +154,7 @@ void_of name attributes from t h = record {
 }
 
 -- A token is the one of its bytes.
-itself : (tok : Token) → IsTok tok → IsTokenOf (spelling tok) (place_of tok) (Some tok)
+itself : (tok : Token) → IsToken tok → IsTokenOf (spelling tok) (place_of tok) (Some tok)
 itself (Start name attributes from) h = tag_found _ from _ name attributes (codes ">") h.0 start_ends refl (start_of name attributes from h.0 h.1)
 itself (End name from) h = end_branch _ from _ refl (λ other t e. ap (λ n. Some (End n from)) (append_cancel_right name other (codes ">") (append_cancel_left (codes "</") _ _ e)))
 itself (Void name attributes from) h =
@@ -166,7 +166,7 @@ itself (Script body from) h = script_branch _ from _ refl (λ other e. ap (λ b.
 some_same : (a b : Token) → ◌≡◌ {A = Option Token} (Some a) (Some b) → a ≡ b
 some_same a b e = cc
 
-pub token_same : (a b : Token) → IsTok a → IsTok b → spelling a ≡ spelling b → place_of a ≡ place_of b → a ≡ b
+pub token_same : (a b : Token) → IsToken a → IsToken b → spelling a ≡ spelling b → place_of a ≡ place_of b → a ≡ b
 token_same a b h k e p = sym (some_same b a (itself b k a h (sym e) p))
 
 -- How long a token is that is no text: up to the byte that ends it.
@@ -198,7 +198,7 @@ ends_through mode next seen (b ∷ xs) ys e =
     ] in
     go (turn_at mode seen b) e
 
-tok_len : (tok : Token) (rest : List ℕ) → IsTok tok → is_text tok ≡ false → length (spelling tok) ≡ ends_len modes.Name (60 ∷ []) (drop 1 (spelling tok ++ rest)) + 1
+tok_len : (tok : Token) (rest : List ℕ) → IsToken tok → is_text tok ≡ false → length (spelling tok) ≡ ends_len modes.Name (60 ∷ []) (drop 1 (spelling tok ++ rest)) + 1
 tok_len tok rest h n =
     let p : Passes (spelling tok) = tok_passes tok h n in
     let split : drop 1 (spelling tok ++ rest) ≡ p.front ++ p.last ∷ rest = ap (λ x. drop 1 (x ++ rest)) p.is ∙ append_assoc p.front (p.last ∷ []) rest in
@@ -215,9 +215,9 @@ spelled_plain : (b : ℕ) → list_all no_tag (spelling_of b) ≡ true
 spelled_plain = each_byte (λ b. list_all no_tag (spelling_of b) ≡ true) refl refl refl refl refl
     (λ b n34 n38 n39 n60 n62. ap (list_all no_tag) (plain_spelling b n34 n38 n39 n60 n62) ∙ and_from _ _ (ap not (ne_eqb b 60 n60)) refl)
 
-escaped_plain : (text : List ℕ) → list_all no_tag (escaped text) ≡ true
+escaped_plain : (text : List ℕ) → list_all no_tag (escape_of text) ≡ true
 escaped_plain [] = refl
-escaped_plain (b ∷ text) = all_append no_tag (spelling_of b) (escaped text) (spelled_plain b) (escaped_plain text)
+escaped_plain (b ∷ text) = all_append no_tag (spelling_of b) (escape_of text) (spelled_plain b) (escaped_plain text)
 
 -- nothing, or a `<`
 abbrev Stops : List ℕ → Type 0
@@ -236,7 +236,7 @@ text_len : (tok : Token) (rest : List ℕ) → is_text tok ≡ true → Stops re
 text_len (Start name attributes from) rest t s = absurd (none_true t)
 text_len (End name from) rest t s = absurd (none_true t)
 text_len (Void name attributes from) rest t s = absurd (none_true t)
-text_len (Text text from) rest t s = sym (run_len (escaped text) rest (escaped_plain text) s)
+text_len (Text text from) rest t s = sym (run_len (escape_of text) rest (escaped_plain text) s)
 text_len (Comment which from) rest t s = absurd (none_true t)
 text_len (Script body from) rest t s = absurd (none_true t)
 
@@ -253,18 +253,18 @@ stops_after (tok ∷ toks) place h =
 same_front : (xs ys more others : List ℕ) → length xs ≡ length ys → xs ++ more ≡ ys ++ others → xs ≡ ys
 same_front xs ys more others l e = sym (take_at xs more (length xs) refl) ∙ (ap (take (length xs)) e ∙ take_at ys others (length xs) (sym l))
 
-other_begins : (tok : Token) (more : List ℕ) → IsTok tok → is_text tok ≡ false → begins_tag (spelling tok ++ more) ≡ true
+other_begins : (tok : Token) (more : List ℕ) → IsToken tok → is_text tok ≡ false → begins_tag (spelling tok ++ more) ≡ true
 other_begins tok more h n = let p : Passes (spelling tok) = tok_passes tok h n in ap (λ x. begins_tag (x ++ more)) p.is
 
-nothing_begins : (rest : List ℕ) → Stops rest → (text : List ℕ) → text ≢ [] → begins_tag (escaped text ++ rest) ≡ false
+nothing_begins : (rest : List ℕ) → Stops rest → (text : List ℕ) → text ≢ [] → begins_tag (escape_of text ++ rest) ≡ false
 nothing_begins rest s [] n = absurd (n refl)
-nothing_begins rest s (b ∷ text) n = ap begins_tag (append_assoc (spelling_of b) (escaped text) rest) ∙ spelled_begins b (escaped text ++ rest)
+nothing_begins rest s (b ∷ text) n = ap begins_tag (append_assoc (spelling_of b) (escape_of text) rest) ∙ spelled_begins b (escape_of text ++ rest)
   where
     spelled_begins : (b : ℕ) (more : List ℕ) → begins_tag (spelling_of b ++ more) ≡ false
     spelled_begins b more = each_byte (λ b. begins_tag (spelling_of b ++ more) ≡ false) refl refl refl refl refl
         (λ b n34 n38 n39 n60 n62. ap (λ x. begins_tag (x ++ more)) (plain_spelling b n34 n38 n39 n60 n62) ∙ ne_eqb b 60 n60) b
 
-text_begins : (tok : Token) (rest : List ℕ) → IsTok tok → is_text tok ≡ true → Stops rest → begins_tag (spelling tok ++ rest) ≡ false
+text_begins : (tok : Token) (rest : List ℕ) → IsToken tok → is_text tok ≡ true → Stops rest → begins_tag (spelling tok ++ rest) ≡ false
 text_begins (Start name attributes from) rest h t s = absurd (none_true t)
 text_begins (End name from) rest h t s = absurd (none_true t)
 text_begins (Void name attributes from) rest h t s = absurd (none_true t)
@@ -273,7 +273,7 @@ text_begins (Comment which from) rest h t s = absurd (none_true t)
 text_begins (Script body from) rest h t s = absurd (none_true t)
 
 -- Of two tokens at the front of the same bytes, neither a text that goes on, the bytes are the same.
-first_same : (a b : Token) (xs ys : List ℕ) → IsTok a → IsTok b → (is_text a ≡ true → Stops xs) → (is_text b ≡ true → Stops ys) → spelling a ++ xs ≡ spelling b ++ ys → spelling a ≡ spelling b
+first_same : (a b : Token) (xs ys : List ℕ) → IsToken a → IsToken b → (is_text a ≡ true → Stops xs) → (is_text b ≡ true → Stops ys) → spelling a ++ xs ≡ spelling b ++ ys → spelling a ≡ spelling b
 first_same a b xs ys h k stop halt e =
     let tt_case : is_text a ≡ true → is_text b ≡ true → spelling a ≡ spelling b = λ s t.
     same_front (spelling a) (spelling b) xs ys (text_len a xs s (stop s) ∙ (ap (front_len no_tag) e ∙ sym (text_len b ys t (halt t)))) e in
@@ -285,19 +285,19 @@ first_same a b xs ys h k stop halt e =
     same_front (spelling a) (spelling b) xs ys (tok_len a xs h s ∙ (ap (λ x. ends_len modes.Name (60 ∷ []) (drop 1 x) + 1) e ∙ sym (tok_len b ys k t))) e in
     ⊎_elim (λ s. ⊎_elim (tt_case s) (tf_case s) (cases_Bool (is_text b))) (λ s. ⊎_elim (ft_case s) (ff_case s) (cases_Bool (is_text b))) (cases_Bool (is_text a))
 
-some_bytes : (tok : Token) → IsTok tok → 0 < length (spelling tok)
-some_bytes (Start name attributes from) h = omega (arith, length-append (tag_front name attributes) (codes ">"))
+some_bytes : (tok : Token) → IsToken tok → 0 < length (spelling tok)
+some_bytes (Start name attributes from) h = omega (arith, length-append (tag_prefix name attributes) (codes ">"))
 some_bytes (End name from) h = omega arith
-some_bytes (Void name attributes from) h = omega (arith, length-append (tag_front name attributes) (codes "/>"))
+some_bytes (Void name attributes from) h = omega (arith, length-append (tag_prefix name attributes) (codes "/>"))
 some_bytes (Text text from) h = text_bytes text h.0
   where
-    text_bytes : (text : List ℕ) → text ≢ [] → 0 < length (escaped text)
+    text_bytes : (text : List ℕ) → text ≢ [] → 0 < length (escape_of text)
     text_bytes [] n = absurd (n refl)
-    text_bytes (b ∷ rest) n = omega (arith, spelling_some b, length-append (spelling_of b) (escaped rest))
+    text_bytes (b ∷ rest) n = omega (arith, spelling_some b, length-append (spelling_of b) (escape_of rest))
 some_bytes (Comment which from) h = omega arith
 some_bytes (Script body from) h = omega arith
 
-nothing_left : (tok : Token) (toks : List Token) → IsTok tok → [] ≡ spellings (tok ∷ toks) → ⊥
+nothing_left : (tok : Token) (toks : List Token) → IsToken tok → [] ≡ spellings (tok ∷ toks) → ⊥
 nothing_left tok toks h e = let n : 0 ≡ length (spelling tok ++ spellings toks) = ap length e in omega (arith, some_bytes tok h, length-append (spelling tok) (spellings toks))
 
 same_lists : (xs ys : List Token) (place : ℕ) (after : Bool) → AreTokensFrom place after xs → AreTokensFrom place after ys → spellings xs ≡ spellings ys → xs ≡ ys
@@ -333,7 +333,7 @@ tag_follows (tok ∷ toks) place text more h e t =
     ap begins_tag (append_assoc (spelling tok) (spellings toks) more) ∙ other_begins tok (spellings toks ++ more) h.0 (not_text (is_text tok) (subst (λ x. MayFollow x (is_text tok)) t h.2))
 
 -- A whole token does not stand in one that has not ended.
-not_begun : (a tok : Token) (xs more : List ℕ) → IsTok a → IsTok tok → (is_text a ≡ true → begins_tag xs ≡ true) → (is_text tok ≡ true) ⊎ (more ≢ []) → (spelling a ++ xs) ++ more ≡ spelling tok → ⊥
+not_begun : (a tok : Token) (xs more : List ℕ) → IsToken a → IsToken tok → (is_text a ≡ true → begins_tag xs ≡ true) → (is_text tok ≡ true) ⊎ (more ≢ []) → (spelling a ++ xs) ++ more ≡ spelling tok → ⊥
 not_begun a tok xs more h k follows ending e =
     let split : spelling a ++ (xs ++ more) ≡ spelling tok ++ [] = sym (append_assoc (spelling a) xs more) ∙ (e ∙ sym (append-nil (spelling tok))) in
     let same : spelling a ≡ spelling tok = first_same a tok (xs ++ more) [] h k (λ t. tag_stops (xs ++ more) (tag_on xs more (follows t))) (λ t. tt) split in
@@ -366,7 +366,7 @@ front_from (a ∷ xs) [] place after more rest h k e f g begun =
     (λ none. absurd (nothing_here a (spellings xs ++ more) h.0 (split ∙ none)))
     (λ begun. absurd (not_begun a begun.1 (spellings xs ++ more) begun.0 h.0 begun.2 (tag_follows xs (place + length (spelling a)) (is_text a) more h.3 f) begun.4 (ap (λ x. x ++ begun.0) split ∙ begun.3))) begun
   where
-    nothing_here : (tok : Token) (xs : List ℕ) → IsTok tok → spelling tok ++ xs ≡ [] → ⊥
+    nothing_here : (tok : Token) (xs : List ℕ) → IsToken tok → spelling tok ++ xs ≡ [] → ⊥
     nothing_here tok xs h e = let n : length (spelling tok ++ xs) ≡ 0 = ap length e in omega (arith, some_bytes tok h, length-append (spelling tok) xs)
 front_from (a ∷ xs) (b ∷ ys) place after more rest h k e f g begun =
     let split : spelling a ++ (spellings xs ++ more) ≡ spelling b ++ (spellings ys ++ rest) =

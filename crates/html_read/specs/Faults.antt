@@ -3,13 +3,13 @@ use Rattle.std.specs.Prelude.{◌≡◌, ◌≢◌, ℕ, ◌+◌, ◌<◌, Bool,
 use Rattle.std.specs.List.{list_all}
 use Rattle.std.specs.Str.{IsUtf8}
 use Rattle.fizz_text.specs.declared.attribute.Attr.{Attr}
-use Rattle.html_names.specs.Escape.{escaped, is_open_entity}
+use Rattle.html_names.specs.Escape.{escape_of, is_open_entity}
 use Rattle.html_read.specs.declared.token.Token.{Token}
 use Rattle.html_read.specs.declared.fault.ReadKind.{ReadKind}
 use Rattle.html_read.specs.declared.fault.ReadKind.TheVariants.{Name, Attribute, Entity, Comment, Text, Utf8}
 use Rattle.html_read.specs.Names.{is_letter, is_digit, IsTagName, IsAttributeName}
-use Rattle.html_names.specs.Printing.{tag_front}
-use Rattle.html_read.specs.Tokens.{AreAttributes, spelling, spellings, is_text, IsTok, AreTokens, Tokenizes}
+use Rattle.html_names.specs.Printing.{tag_prefix}
+use Rattle.html_read.specs.Tokens.{AreAttributes, spelling, spellings, is_text, IsToken, AreTokens, Tokenizes}
 
 -- The bytes can go on so that they are tokens.
 abbrev pub IsAlive : List ℕ → Type 0
@@ -23,7 +23,7 @@ pub record IsFirstDead (bytes : List ℕ) (at : ℕ) : Type 0 where
 
 -- A token that has begun and not ended: a text, which may always go on, or another token of which bytes are to come.
 abbrev pub IsBegun : List ℕ → Type 0
-IsBegun rest = (more : List ℕ) × (tok : Token) × IsTok tok × (rest ++ more ≡ spelling tok) × ((is_text tok ≡ true) ⊎ (more ≢ []))
+IsBegun rest = (more : List ℕ) × (tok : Token) × IsToken tok × (rest ++ more ≡ spelling tok) × ((is_text tok ≡ true) ⊎ (more ≢ []))
 
 -- A tag, a comment or a script has begun.
 abbrev pub begins_tag : List ℕ → Bool
@@ -47,7 +47,7 @@ pub record Splits (bytes : List ℕ) (toks : List Token) (rest : List ℕ) : Typ
 -- The run is what the rest has of a text or of an attribute's value, as it is written.
 abbrev pub IsOpenValue : List ℕ → List ℕ → Type 0
 IsOpenValue rest run = (name : List ℕ) × (attributes : List Attr) × (attribute : List ℕ) × IsTagName name × AreAttributes attributes × IsAttributeName attribute
-    × (rest ≡ tag_front name attributes ++ (32 ∷ attribute ++ 61 ∷ 34 ∷ run)) × (list_all (λ b. not (b == 34)) run ≡ true)
+    × (rest ≡ tag_prefix name attributes ++ (32 ∷ attribute ++ 61 ∷ 34 ∷ run)) × (list_all (λ b. not (b == 34)) run ≡ true)
 
 abbrev pub IsRun : List ℕ → List ℕ → Type 0
 IsRun rest run = ((begins_tag rest ≡ false) × (run ≡ rest)) ⊎ IsOpenValue rest run
@@ -61,7 +61,7 @@ IsAtUtf8 rest byte = (run : List ℕ) × IsRun rest run × ¬ IsUtf8Front (run +
 
 -- within one of the five replacements that an `&` began
 abbrev pub IsAtEntity : List ℕ → Type 0
-IsAtEntity rest = (text : List ℕ) × (begun : List ℕ) × IsRun rest (escaped text ++ begun) × (is_open_entity begun ≡ true)
+IsAtEntity rest = (text : List ℕ) × (begun : List ℕ) × IsRun rest (escape_of text ++ begun) × (is_open_entity begun ≡ true)
 
 -- outside tags, comments and scripts
 abbrev pub IsAtText : List ℕ → Type 0

@@ -6,7 +6,7 @@ use Rattle.html_read.specs.declared.fault.ReadFault.{ReadFault}
 use Rattle.html_read.specs.declared.fault.ReadFault.TheVariants as feeding
 use Rattle.html_read.specs.declared.fault.FinishFault.{FinishFault}
 use Rattle.html_read.specs.declared.fault.FinishFault.TheVariants as finishing
-use Rattle.html_read.specs.Tokens.{spelling, spellings, is_text, place_of, IsTok}
+use Rattle.html_read.specs.Tokens.{spelling, spellings, is_text, place_of, IsToken}
 use Rattle.html_read.specs.Faults.{Splits, HasFault}
 
 -- What a reader holds: the rest that no token ended, the place where it begins, and the fault that was met.
@@ -46,7 +46,7 @@ pub record IsUnfinished (reader : ReaderState) (at : ℕ) : Type 0 where
   pub sound : reader.fault ≡ None
   pub place_is : at ≡ reader.place
   pub some : reader.rest ≢ []
-  pub no_token : (tok : Token) → IsTok tok → reader.rest ≡ spelling tok → ⊥
+  pub no_token : (tok : Token) → IsToken tok → reader.rest ≡ spelling tok → ⊥
 
 abbrev pub FinishCause : ReaderState → FinishFault → Type 0
 FinishCause reader (finishing.Bad at kind) = reader.fault ≡ Some (at, kind)
@@ -57,7 +57,7 @@ FinishCause reader finishing.OutOfMemory = Unit {0}
 pub record IsOpenText (reader : ReaderState) (tok : Token) : Type 0 where
   pub sound : reader.fault ≡ None
   pub text : is_text tok ≡ true
-  pub is_tok : IsTok tok
+  pub is_tok : IsToken tok
   pub place_is : place_of tok ≡ reader.place
   pub spelled : reader.rest ≡ spelling tok
 

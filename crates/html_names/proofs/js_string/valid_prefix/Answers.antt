@@ -1,7 +1,7 @@
 use Rattle.std.proofs.Common.{take, sym, subst, arith}
 use Rattle.std.specs.Str.{IsValidUpTo}
-use Rattle.html_names.proofs.JsReading.{longest_front}
-use Rattle.html_names.proofs.js_string.valid_front.Goals as goal
+use Rattle.html_names.proofs.JsStringsLemmas.{longest_front}
+use Rattle.html_names.proofs.js_string.valid_prefix.Goals as goal
 
 pub returns-in-Err-clause-longest : goal.returns-in-Err-clause-longest
 returns-in-Err-clause-longest c = λ m more four len u.

@@ -2,9 +2,9 @@
 use Rattle.std.proofs.Common.{◌≡◌, ℕ, suc, ◌<◌, Bool, true, false, cond, if◌then◌else◌, List, [], ◌∷◌, map, drop, length, get_or, ap, sym, refl, ◌∙◌, Option, Some, None, option_map, Bor}
 use Rattle.std.specs.Map.{lookup}
 use Rattle.std.specs.Str.{bytes_eq}
-use Rattle.html_names.specs.Attributes.{Meaning, attribute_rows, attribute_of, is_spoken_name}
+use Rattle.html_names.specs.Attributes.{Meaning, attribute_rows, attribute_of, is_prefixed_name}
 use Rattle.html_names.specs.Rows.{row_of, pair_meaning, attribute_row}
-use Rattle.html_names.specs.declared.attributes.AttrKind.TheVariants.{Spoken}
+use Rattle.html_names.specs.declared.attributes.AttrKind.TheVariants.{Booleanish}
 use Rattle.html_names.specs.declared.attributes.AttrName.{AttrName}
 use Rattle.html_names.specs.declared.attributes.AttrKind.{AttrKind}
 use Rattle.std.proofs.Math.Seq.{drop-cons}
@@ -29,5 +29,5 @@ meaning_found test [] = refl
 meaning_found test (row ∷ rows) =
     map_choice pair_meaning (test row.0.now) (Some row.1) (lookup test (map row_of rows)) ∙ ap (λ found. cond (test row.0.now) (Some (pair_meaning row.1)) found) (meaning_found test rows)
 
-pub not_spoken : (name : List ℕ) (found : Option Meaning) → is_spoken_name name ≡ false → found ≡ lookup (bytes_eq name) attribute_rows → found ≡ attribute_of name
-not_spoken name found e h = h ∙ ap (λ b. if b then Some (None, Spoken) else lookup (bytes_eq name) attribute_rows) (sym e)
+pub attribute_of-unprefixed : (name : List ℕ) (found : Option Meaning) → is_prefixed_name name ≡ false → found ≡ lookup (bytes_eq name) attribute_rows → found ≡ attribute_of name
+attribute_of-unprefixed name found e h = h ∙ ap (λ b. if b then Some (None, Booleanish) else lookup (bytes_eq name) attribute_rows) (sym e)

@@ -4,8 +4,8 @@ use Rattle.std.specs.Str.{IsUtf8, IsAscii}
 use Rattle.std.proofs.lemmas.Bool.{cases_lt}
 use Rattle.std.proofs.lemmas.Str.{IsUtf8-append, IsUtf8-take, IsUtf8-drop, IsUtf8-from_ascii, IsCharBoundary-before_ascii, IsCharBoundary-after_ascii}
 use Rattle.std.proofs.Math.Seq.{take-append_seam, drop-append-add, get_or-append_seam}
-use Rattle.html_names.specs.Escape.{spelling_of, escaped}
-use Rattle.html_names.proofs.Escaping.{each_byte, plain_spelling}
+use Rattle.html_names.specs.Escape.{spelling_of, escape_of}
+use Rattle.html_names.proofs.EscapeLemmas.{each_byte, plain_spelling}
 
 abbrev pub AreAscii : List ℕ → Type 0
 AreAscii [] = Unit {0}
@@ -61,33 +61,33 @@ low_spelling = each_byte (λ b. b < 128 → IsAsciiSpelling b)
     (λ b n34 n38 n39 n60 n62 l. record { first = b; rest = []; is = plain_spelling b n34 n38 n39 n60 n62; ascii = (l, tt) })
 
 -- Bytes that stand before the text are carried along, so that a character of several bytes may be cut.
-escaped_after : (front text : List ℕ) → IsUtf8 (front ++ text) → IsUtf8 (front ++ escaped text)
+escaped_after : (front text : List ℕ) → IsUtf8 (front ++ text) → IsUtf8 (front ++ escape_of text)
 escaped_after front [] u = u
 escaped_after front (b ∷ text) u =
-    let low : b < 128 → IsUtf8 (front ++ escaped (b ∷ text)) = λ l.
+    let low : b < 128 → IsUtf8 (front ++ escape_of (b ∷ text)) = λ l.
     let cut : IsUtf8 front × IsUtf8 text = cut_at_ascii front b text l u in
     let s : IsAsciiSpelling b = low_spelling b l in
     IsUtf8-append front _ cut.0 (IsUtf8-append (spelling_of b) _ (subst IsUtf8 (sym s.is) (utf8_ascii _ s.ascii)) (escaped_after [] text cut.1)) in
-    let high : 128 ≤ b → IsUtf8 (front ++ escaped (b ∷ text)) = λ h.
-    let more : IsUtf8 (front ++ b ∷ [] ++ escaped text) = escaped_after (front ++ b ∷ []) text (subst IsUtf8 (sym (append_assoc front (b ∷ []) text)) u) in
-    subst (λ bs. IsUtf8 (front ++ (bs ++ escaped text))) (sym (high_spelling b h)) (subst IsUtf8 (append_assoc front (b ∷ []) (escaped text)) more) in
+    let high : 128 ≤ b → IsUtf8 (front ++ escape_of (b ∷ text)) = λ h.
+    let more : IsUtf8 (front ++ b ∷ [] ++ escape_of text) = escaped_after (front ++ b ∷ []) text (subst IsUtf8 (sym (append_assoc front (b ∷ []) text)) u) in
+    subst (λ bs. IsUtf8 (front ++ (bs ++ escape_of text))) (sym (high_spelling b h)) (subst IsUtf8 (append_assoc front (b ∷ []) (escape_of text)) more) in
     ⊎_elim low high (cases_lt b 128)
 
-unescaped_after : (front text : List ℕ) → IsUtf8 (front ++ escaped text) → IsUtf8 (front ++ text)
+unescaped_after : (front text : List ℕ) → IsUtf8 (front ++ escape_of text) → IsUtf8 (front ++ text)
 unescaped_after front [] u = u
 unescaped_after front (b ∷ text) u =
     let low : b < 128 → IsUtf8 (front ++ b ∷ text) = λ l.
     let s : IsAsciiSpelling b = low_spelling b l in
-    let cut : IsUtf8 front × IsUtf8 (escaped text) = cut_around front s.first s.rest (escaped text) s.ascii (subst (λ bs. IsUtf8 (front ++ (bs ++ escaped text))) s.is u) in
+    let cut : IsUtf8 front × IsUtf8 (escape_of text) = cut_around front s.first s.rest (escape_of text) s.ascii (subst (λ bs. IsUtf8 (front ++ (bs ++ escape_of text))) s.is u) in
     IsUtf8-append front _ cut.0 (IsUtf8-append (b ∷ []) text (utf8_ascii (b ∷ []) (l, tt)) (unescaped_after [] text cut.1)) in
     let high : 128 ≤ b → IsUtf8 (front ++ b ∷ text) = λ h.
-    let spelled : IsUtf8 (front ++ (b ∷ [] ++ escaped text)) = subst (λ bs. IsUtf8 (front ++ (bs ++ escaped text))) (high_spelling b h) u in
-    let more : IsUtf8 (front ++ b ∷ [] ++ text) = unescaped_after (front ++ b ∷ []) text (subst IsUtf8 (sym (append_assoc front (b ∷ []) (escaped text))) spelled) in
+    let spelled : IsUtf8 (front ++ (b ∷ [] ++ escape_of text)) = subst (λ bs. IsUtf8 (front ++ (bs ++ escape_of text))) (high_spelling b h) u in
+    let more : IsUtf8 (front ++ b ∷ [] ++ text) = unescaped_after (front ++ b ∷ []) text (subst IsUtf8 (sym (append_assoc front (b ∷ []) (escape_of text))) spelled) in
     subst IsUtf8 (append_assoc front (b ∷ []) text) more in
     ⊎_elim low high (cases_lt b 128)
 
-pub escaped_utf8 : (text : List ℕ) → IsUtf8 text → IsUtf8 (escaped text)
+pub escaped_utf8 : (text : List ℕ) → IsUtf8 text → IsUtf8 (escape_of text)
 escaped_utf8 text u = escaped_after [] text u
 
-pub unescaped_utf8 : (text : List ℕ) → IsUtf8 (escaped text) → IsUtf8 text
+pub unescaped_utf8 : (text : List ℕ) → IsUtf8 (escape_of text) → IsUtf8 text
 unescaped_utf8 text u = unescaped_after [] text u

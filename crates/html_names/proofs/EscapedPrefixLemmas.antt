@@ -1,4 +1,4 @@
--- The fronts of escaped texts, and that bytes without a bad place are an escaped text.
+-- The prefixes of escaped texts, and that bytes without a bad place are an escaped text.
 use Rattle.std.proofs.Common.{◌≡◌, ℕ, zero, suc, ◌+◌, ◌<◌, ◌≤◌, Bool, true, false, nat_lt, not, ◌&&◌, ◌||◌, ◌⊎◌, inl, inr, List, [], ◌∷◌, ◌++◌, take, drop, length, refl, sym, ◌∙◌, ap, subst, ⊎_elim, arith, append_assoc, append-nil, length-append}
 use Rattle.std.specs.List.{list_any}
 use Rattle.std.specs.Str.{bytes_eq}
@@ -7,8 +7,8 @@ use Rattle.std.proofs.lemmas.List.{take-append-drop, take-append-le, drop-append
 use Rattle.std.proofs.lemmas.List.Concat.{flat_map-append}
 use Rattle.std.proofs.lemmas.Slice.Eq.{bytes_eq-Decides}
 use Rattle.std.proofs.Math.Seq.{take-append_seam, drop-append_seam, drop-append-add}
-use Rattle.html_names.specs.Escape.{spelling_of, escaped, entities, begins_entity, begins_badly, is_open_entity, IsClean, IsEscaped, IsEscapedFront, IsTextAndOpen}
-use Rattle.html_names.proofs.Escaping.{each_byte, plain_spelling, spelling_some}
+use Rattle.html_names.specs.Escape.{spelling_of, escape_of, entities, begins_entity, begins_badly, is_open_entity, IsClean, IsEscaped, IsEscapedPrefix, IsTextAndOpen}
+use Rattle.html_names.proofs.EscapeLemmas.{each_byte, plain_spelling, spelling_some}
 
 pub or_cases : (a b : Bool) → (a || b) ≡ true → (a ≡ true) ⊎ (b ≡ true)
 or_cases true b e = inl refl
@@ -51,7 +51,7 @@ spelling_endings = each_byte (λ b. AreEndings [] (spelling_of b))
     (inl refl, (inr refl, (inr refl, (inr refl, tt))))
     (λ b n34 n38 n39 n60 n62. subst (λ bs. AreEndings [] bs) (sym (plain_spelling b n34 n38 n39 n60 n62)) (inl refl, tt))
 
-front_of_text : (text bytes more : List ℕ) → bytes ++ more ≡ escaped text → IsTextAndOpen bytes
+front_of_text : (text bytes more : List ℕ) → bytes ++ more ≡ escape_of text → IsTextAndOpen bytes
 front_of_text [] bytes more e =
     let none : bytes ≡ [] = nil_from_length bytes (omega (arith, ap length e, length-append bytes more)) in
     record { text = []; rest = []; is = none; ending = inl refl }
@@ -59,23 +59,23 @@ front_of_text (b ∷ text) bytes more e =
     let n : ℕ = length (spelling_of b) in
     let within : length bytes < n → IsTextAndOpen bytes = λ l.
     let same : bytes ≡ take (length bytes) (spelling_of b) =
-    sym (take-append_seam bytes more) ∙ (ap (take (length bytes)) e ∙ take-append-le (length bytes) (spelling_of b) (escaped text) (omega arith)) in
+    sym (take-append_seam bytes more) ∙ (ap (take (length bytes)) e ∙ take-append-le (length bytes) (spelling_of b) (escape_of text) (omega arith)) in
     record { text = []; rest = bytes; is = refl; ending = subst IsEnding (sym same) (ending_at [] (spelling_of b) (length bytes) (spelling_endings b) l) } in
     let past : n ≤ length bytes → IsTextAndOpen bytes = λ l.
     let first : take n bytes ≡ spelling_of b =
-    sym (take-append-le n bytes more l) ∙ (ap (take n) e ∙ take-append_seam (spelling_of b) (escaped text)) in
-    let left : drop n bytes ++ more ≡ escaped text =
-    sym (drop-append-le n bytes more l) ∙ (ap (drop n) e ∙ drop-append_seam (spelling_of b) (escaped text)) in
+    sym (take-append-le n bytes more l) ∙ (ap (take n) e ∙ take-append_seam (spelling_of b) (escape_of text)) in
+    let left : drop n bytes ++ more ≡ escape_of text =
+    sym (drop-append-le n bytes more l) ∙ (ap (drop n) e ∙ drop-append_seam (spelling_of b) (escape_of text)) in
     let h : IsTextAndOpen (drop n bytes) = front_of_text text (drop n bytes) more left in
     record {
       text = b ∷ h.text;
       rest = h.rest;
-      is = sym (take-append-drop n bytes) ∙ (ap (λ xs. xs ++ drop n bytes) first ∙ (ap (λ xs. spelling_of b ++ xs) h.is ∙ sym (append_assoc (spelling_of b) (escaped h.text) h.rest)));
+      is = sym (take-append-drop n bytes) ∙ (ap (λ xs. xs ++ drop n bytes) first ∙ (ap (λ xs. spelling_of b ++ xs) h.is ∙ sym (append_assoc (spelling_of b) (escape_of h.text) h.rest)));
       ending = h.ending;
     } in
     ⊎_elim within past (cases_lt (length bytes) n)
 
-pub front_is_open : (bytes : List ℕ) → IsEscapedFront bytes → IsTextAndOpen bytes
+pub front_is_open : (bytes : List ℕ) → IsEscapedPrefix bytes → IsTextAndOpen bytes
 front_is_open bytes h = front_of_text h.0 bytes h.1 h.2
 
 -- What an ending goes on with.
@@ -99,15 +99,15 @@ one_goes_on rest e1 =
 open_goes_on : (rest : List ℕ) → is_open_entity rest ≡ true → GoesOn rest
 open_goes_on rest e = one_goes_on rest ((and_both (nat_lt 0 (length rest)) _ e).1)
 
-pub open_is_front : (bytes : List ℕ) → IsTextAndOpen bytes → IsEscapedFront bytes
+pub open_is_front : (bytes : List ℕ) → IsTextAndOpen bytes → IsEscapedPrefix bytes
 open_is_front bytes h =
-    let whole : h.rest ≡ [] → IsEscapedFront bytes = λ e.
-    (h.text, [], append-nil bytes ∙ (h.is ∙ (ap (λ xs. escaped h.text ++ xs) e ∙ append-nil (escaped h.text)))) in
-    let cut : is_open_entity h.rest ≡ true → IsEscapedFront bytes = λ e.
+    let whole : h.rest ≡ [] → IsEscapedPrefix bytes = λ e.
+    (h.text, [], append-nil bytes ∙ (h.is ∙ (ap (λ xs. escape_of h.text ++ xs) e ∙ append-nil (escape_of h.text)))) in
+    let cut : is_open_entity h.rest ≡ true → IsEscapedPrefix bytes = λ e.
     let g : GoesOn h.rest = open_goes_on h.rest e in (
       h.text ++ g.0 ∷ [],
       g.1,
-      ap (λ xs. xs ++ g.1) h.is ∙ (append_assoc (escaped h.text) h.rest g.1 ∙ (ap (λ xs. escaped h.text ++ xs) (g.2 ∙ sym (append-nil (spelling_of g.0)))
+      ap (λ xs. xs ++ g.1) h.is ∙ (append_assoc (escape_of h.text) h.rest g.1 ∙ (ap (λ xs. escape_of h.text ++ xs) (g.2 ∙ sym (append-nil (spelling_of g.0)))
           ∙ sym (flat_map-append spelling_of h.text (g.0 ∷ [])))),
     ) in
     ⊎_elim whole cut h.ending

@@ -10,8 +10,8 @@ use Rattle.std.proofs.lemmas.Str.{inside_one}
 use Rattle.std.proofs.Math.ListN.{get_or-append}
 use Rattle.std.proofs.Math.Seq.{get_or-append_right}
 use Rattle.html_names.specs.JsStrings.{short_letter, is_coded, four_digits, char_spelling, js_string}
-use Rattle.html_names.proofs.JsChars.{each_letter, each_spelling, coded_small}
-use Rattle.html_names.proofs.JsReading.{apart_bools}
+use Rattle.html_names.proofs.JsStringsCharLemmas.{each_letter, each_spelling, coded_small}
+use Rattle.html_names.proofs.JsStringsLemmas.{apart_bools}
 
 abbrev HasNoMark : List ℕ → Type 0
 HasNoMark xs = (k : ℕ) → get_or xs k 0 ≢ 60

@@ -4,7 +4,8 @@ use Rattle.std.specs.Str.{bytes_eq}
 use Rattle.std.proofs.lemmas.Bool.{cases_eq, cases_lt, ne_eqb}
 use Rattle.std.proofs.lemmas.List.{get_or_past}
 use Rattle.std.proofs.Math.Seq.{drop-cons}
-use Rattle.html_names.specs.Escape.{spelling_of, escaped, begins_badly}
+use Rattle.fizz_text.specs.Ascii.{apostrophe, greater_than_sign, less_than_sign, quotation_mark}
+use Rattle.html_names.specs.Escape.{spelling_of, escape_of, begins_badly, IsNoMark}
 
 -- A byte is one of the five that have replacements, or another.
 pub each_byte : (P : ℕ → Type 0) → P 34 → P 38 → P 39 → P 60 → P 62 →
@@ -44,14 +45,14 @@ NoneBad-spelling more = each_byte (λ b. NoneBad (spelling_of b) more)
     (refl, (refl, (refl, (refl, (refl, (refl, tt)))))) (refl, (refl, (refl, (refl, tt)))) (refl, (refl, (refl, (refl, tt))))
     (λ b n34 n38 n39 n60 n62. subst (λ bs. NoneBad bs more) (sym (plain_spelling b n34 n38 n39 n60 n62)) (plain_good b more n34 n38 n39 n60 n62, tt))
 
-NoneBad-escaped : (text more : List ℕ) → NoneBad (escaped text) more
-NoneBad-escaped [] more = tt
-NoneBad-escaped (b ∷ text) more =
-    NoneBad-append (spelling_of b) (escaped text) more (NoneBad-spelling (escaped text ++ more) b) (NoneBad-escaped text more)
+NoneBad-escape_of : (text more : List ℕ) → NoneBad (escape_of text) more
+NoneBad-escape_of [] more = tt
+NoneBad-escape_of (b ∷ text) more =
+    NoneBad-append (spelling_of b) (escape_of text) more (NoneBad-spelling (escape_of text ++ more) b) (NoneBad-escape_of text more)
 
 -- No place of an escaped text is bad, whatever follows.
-pub escaped_clean : (text more : List ℕ) (k : ℕ) → k < length (escaped text) → begins_badly (drop k (escaped text ++ more)) ≡ false
-escaped_clean text more k l = NoneBad-at (escaped text) more k (NoneBad-escaped text more) l
+pub escaped_clean : (text more : List ℕ) (k : ℕ) → k < length (escape_of text) → begins_badly (drop k (escape_of text ++ more)) ≡ false
+escaped_clean text more k l = NoneBad-at (escape_of text) more k (NoneBad-escape_of text more) l
 
 -- The byte whose spelling stands at the front, and the length of its spelling.
 abbrev byte_at_front : List ℕ → ℕ
@@ -75,22 +76,22 @@ same_front [] ys zs e = e
 same_front (x ∷ xs) ys zs e = same_front xs ys zs (ap (drop 1) e)
 
 -- Only one text is escaped as these bytes.
-pub escaped_injective : (xs ys : List ℕ) → escaped xs ≡ escaped ys → xs ≡ ys
+pub escaped_injective : (xs ys : List ℕ) → escape_of xs ≡ escape_of ys → xs ≡ ys
 escaped_injective [] [] e = refl
-escaped_injective [] (y ∷ ys) e = absurd (omega (arith, spelling_some y, ap length e, length-append (spelling_of y) (escaped ys)))
-escaped_injective (x ∷ xs) [] e = absurd (omega (arith, spelling_some x, ap length e, length-append (spelling_of x) (escaped xs)))
+escaped_injective [] (y ∷ ys) e = absurd (omega (arith, spelling_some y, ap length e, length-append (spelling_of y) (escape_of ys)))
+escaped_injective (x ∷ xs) [] e = absurd (omega (arith, spelling_some x, ap length e, length-append (spelling_of x) (escape_of xs)))
 escaped_injective (x ∷ xs) (y ∷ ys) e =
-    let same : x ≡ y = sym (byte_at_front_is (escaped xs) x) ∙ (ap byte_at_front e ∙ byte_at_front_is (escaped ys) y) in
-    let rest : escaped xs ≡ escaped ys = same_front (spelling_of x) (escaped xs) (escaped ys) (e ∙ ap (λ b. spelling_of b ++ escaped ys) (sym same)) in
+    let same : x ≡ y = sym (byte_at_front_is (escape_of xs) x) ∙ (ap byte_at_front e ∙ byte_at_front_is (escape_of ys) y) in
+    let rest : escape_of xs ≡ escape_of ys = same_front (spelling_of x) (escape_of xs) (escape_of ys) (e ∙ ap (λ b. spelling_of b ++ escape_of ys) (sym same)) in
     cc (same, escaped_injective xs ys rest)
 
 true_not_false : true ≡ false → ⊥
 true_not_false e = cc
 
 -- A byte that is bad wherever it stands is in no escaped text.
-pub absent_byte : (m : ℕ) → 0 < m → ((bs : List ℕ) → begins_badly (m ∷ bs) ≡ true) → (text : List ℕ) (k : ℕ) → get_or (escaped text) k 0 ≢ m
+pub absent_byte : (m : ℕ) → 0 < m → ((bs : List ℕ) → begins_badly (m ∷ bs) ≡ true) → (text : List ℕ) (k : ℕ) → get_or (escape_of text) k 0 ≢ m
 absent_byte m some bad text k e =
-    let all : List ℕ = escaped text in
+    let all : List ℕ = escape_of text in
     let inside : k < length all → ⊥ = λ l.
     let good : begins_badly (drop k all) ≡ false = subst (λ bs. begins_badly (drop k bs) ≡ false) (append-nil all) (escaped_clean text [] k l) in
     let here : drop k all ≡ m ∷ drop (suc k) all = drop-cons all k 0 l ∙ ap (λ b. b ∷ drop (suc k) all) e in
@@ -98,11 +99,10 @@ absent_byte m some bad text k e =
     ⊎_elim inside (λ past. let none : get_or all k 0 ≡ 0 = get_or_past all k 0 past in omega arith) (cases_lt k (length all))
 
 -- The four marks stand in no escaped text.
-pub escaped_unmarked : (text : List ℕ) (k : ℕ) →
-    (get_or (escaped text) k 0 ≢ 34) × (get_or (escaped text) k 0 ≢ 39) × (get_or (escaped text) k 0 ≢ 60) × (get_or (escaped text) k 0 ≢ 62)
-escaped_unmarked text k = (
-  absent_byte 34 (omega arith) (λ bs. refl) text k,
-  absent_byte 39 (omega arith) (λ bs. refl) text k,
-  absent_byte 60 (omega arith) (λ bs. refl) text k,
-  absent_byte 62 (omega arith) (λ bs. refl) text k,
-)
+pub escaped_unmarked : (text : List ℕ) (k : ℕ) → IsNoMark (get_or (escape_of text) k 0)
+escaped_unmarked text k = record {
+  no_quotation_mark = absent_byte quotation_mark (omega arith) (λ bs. refl) text k;
+  no_apostrophe = absent_byte apostrophe (omega arith) (λ bs. refl) text k;
+  no_less_than_sign = absent_byte less_than_sign (omega arith) (λ bs. refl) text k;
+  no_greater_than_sign = absent_byte greater_than_sign (omega arith) (λ bs. refl) text k;
+}

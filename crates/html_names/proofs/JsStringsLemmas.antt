@@ -10,14 +10,14 @@ use Rattle.std.proofs.lemmas.List.Concat.{flat_map-append}
 use Rattle.std.proofs.lemmas.Str.{encode_same, IsUtf8-encode, IsUtf8-append, length-encode, len_utf8_bounds, chars-append, chars-encodes, scalars-chars, encodes-chars, chars-nil, IsUtf8-nil}
 use Rattle.std.proofs.lemmas.Slice.Eq.{bytes_eq-Decides}
 use Rattle.std.proofs.Math.Seq.{take-append_seam, drop-append_seam}
-use Rattle.html_names.specs.JsStrings.{short_letter, is_coded, four_digits, char_spelling, js_string, BeginsNoChar, BeginsNoString, IsStringAtFront}
+use Rattle.html_names.specs.JsStrings.{short_letter, is_coded, four_digits, char_spelling, js_string, BeginsNoChar, BeginsNoString, BeginsWithString}
 use Rattle.html_names.specs.Spellings.{IsSpelled}
 use Rattle.html_names.specs.declared.js_string.Spelling.{Spelling}
 use Rattle.html_names.specs.declared.js_string.Spelling.TheVariants.{Short, Coded, Itself}
 use Rattle.std.proofs.Math.Utf8.{scalar}
-use Rattle.html_names.proofs.Fronts.{and_both}
-use Rattle.html_names.proofs.Utf8.{utf8_ascii}
-use Rattle.html_names.proofs.JsChars.{each_spelling, letter_not_u, itself_not_escape, char_same, not_quote, spelling_some, spelling_utf8}
+use Rattle.html_names.proofs.EscapedPrefixLemmas.{and_both}
+use Rattle.html_names.proofs.Utf8Lemmas.{utf8_ascii}
+use Rattle.html_names.proofs.JsStringsCharLemmas.{each_spelling, letter_not_u, itself_not_escape, char_same, not_quote, spelling_some, spelling_utf8}
 
 pub apart_bools : (b : Bool) → b ≡ true → b ≡ false → ⊥
 apart_bools b e f = cc
@@ -166,7 +166,7 @@ read_more bytes text rest more c u is_scalar is e =
     ∙ (flat_map-append char_spelling (chars text) (c ∷ []) ∙ ap (λ xs. spelled ++ xs) (append-nil (char_spelling c))) in
     is ∙ (ap (λ xs. 34 ∷ (spelled ++ xs)) e ∙ (ap (λ xs. 34 ∷ xs) (sym (append_assoc spelled (char_spelling c) more)) ∙ ap (λ xs. 34 ∷ (xs ++ more)) (sym grown)))
 
-pub whole_string : (bytes text rest more : List ℕ) → IsUtf8 text → bytes ≡ 34 ∷ (flat_map char_spelling (chars text) ++ rest) → rest ≡ 34 ∷ more → IsStringAtFront bytes text (length bytes - length more)
+pub whole_string : (bytes text rest more : List ℕ) → IsUtf8 text → bytes ≡ 34 ∷ (flat_map char_spelling (chars text) ++ rest) → rest ≡ 34 ∷ more → BeginsWithString bytes text (length bytes - length more)
 whole_string bytes text rest more u is e =
     let whole : bytes ≡ js_string text ++ more = is ∙ (ap (λ xs. 34 ∷ (flat_map char_spelling (chars text) ++ xs)) e ∙ sym (string_is text more)) in
     let size : length bytes - length more ≡ length (js_string text) = omega (arith, ap length whole, length-append (js_string text) more) in

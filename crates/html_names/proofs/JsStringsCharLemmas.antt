@@ -6,9 +6,9 @@ use Rattle.std.proofs.lemmas.Bool.{cases_eq, ne_eqb, eqb-true}
 use Rattle.std.proofs.lemmas.Bool.Decides.{Decides-ltb, nat_tests}
 use Rattle.std.proofs.lemmas.Option.{same_Some}
 use Rattle.std.proofs.lemmas.Str.{encode_same, char_from_byte, digit_value-digit_char, IsUtf8-encode, length-encode, len_utf8_bounds}
-use Rattle.html_names.specs.JsStrings.{short_letter, is_coded, four_digits, written, char_spelling}
-use Rattle.html_names.proofs.Fronts.{or_cases}
-use Rattle.html_names.proofs.Utf8.{utf8_ascii}
+use Rattle.html_names.specs.JsStrings.{short_letter, is_coded, four_digits, spelling_by, char_spelling}
+use Rattle.html_names.proofs.EscapedPrefixLemmas.{or_cases}
+use Rattle.html_names.proofs.Utf8Lemmas.{utf8_ascii}
 
 at_letter : (P : ℕ → ℕ → Type 0) (c l x y : ℕ) → P x y → c ≡ x → short_letter x ≡ Some y → short_letter c ≡ Some l → P c l
 at_letter P c l x y p here is e =
@@ -42,7 +42,7 @@ coded_or_itself P c true e coded itself = coded e
 coded_or_itself P c false e coded itself = itself e
 
 at_option : (P : List ℕ → Type 0) (c : ℕ) (o : Option ℕ) → short_letter c ≡ o → ((l : ℕ) → short_letter c ≡ Some l → P (92 ∷ l ∷ [])) →
-    (short_letter c ≡ None → is_coded c ≡ true → P (92 ∷ 117 ∷ four_digits c)) → (short_letter c ≡ None → is_coded c ≡ false → P (encode_utf8 c)) → P (written o c)
+    (short_letter c ≡ None → is_coded c ≡ true → P (92 ∷ 117 ∷ four_digits c)) → (short_letter c ≡ None → is_coded c ≡ false → P (encode_utf8 c)) → P (spelling_by o c)
 at_option P c (Some l) e short coded itself = short l e
 at_option P c None e short coded itself = coded_or_itself P c (is_coded c) refl (coded e) (itself e)
 
@@ -99,13 +99,13 @@ same_letter c d l e f =
     sym (back c l e) ∙ back d l f
 
 pub short_is : (c l : ℕ) → short_letter c ≡ Some l → char_spelling c ≡ 92 ∷ l ∷ []
-short_is c l e = ap (λ o. written o c) e
+short_is c l e = ap (λ o. spelling_by o c) e
 
 pub coded_is : (c : ℕ) → short_letter c ≡ None → is_coded c ≡ true → char_spelling c ≡ 92 ∷ 117 ∷ four_digits c
-coded_is c n e = ap (λ o. written o c) n ∙ ap (λ (b : Bool). if b then 92 ∷ 117 ∷ four_digits c else encode_utf8 c) e
+coded_is c n e = ap (λ o. spelling_by o c) n ∙ ap (λ (b : Bool). if b then 92 ∷ 117 ∷ four_digits c else encode_utf8 c) e
 
 pub itself_is : (c : ℕ) → short_letter c ≡ None → is_coded c ≡ false → char_spelling c ≡ encode_utf8 c
-itself_is c n e = ap (λ o. written o c) n ∙ ap (λ (b : Bool). if b then 92 ∷ 117 ∷ four_digits c else encode_utf8 c) e
+itself_is c n e = ap (λ o. spelling_by o c) n ∙ ap (λ (b : Bool). if b then 92 ∷ 117 ∷ four_digits c else encode_utf8 c) e
 
 -- One reading
 

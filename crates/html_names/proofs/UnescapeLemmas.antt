@@ -3,26 +3,26 @@ use Rattle.std.proofs.Common.{◌≡◌, ℕ, ◌-◌, ◌<◌, ◌≤◌, Bool,
 use Rattle.std.proofs.lemmas.Bool.{cases_lt, eqb-true, eqb-false}
 use Rattle.std.proofs.lemmas.List.{drop_all, nil_from_length}
 use Rattle.std.proofs.Math.Seq.{drop-append_seam}
-use Rattle.html_names.specs.Escape.{escaped, begins_badly, IsClean, IsFirstBad}
-use Rattle.html_names.proofs.Escaping.{escaped_clean}
+use Rattle.html_names.specs.Escape.{escape_of, begins_badly, IsClean, IsFirstBad}
+use Rattle.html_names.proofs.EscapeLemmas.{escaped_clean}
 
-pub clean_when_escaped : (text bytes : List ℕ) → escaped text ≡ bytes → IsClean bytes
+pub clean_when_escaped : (text bytes : List ℕ) → escape_of text ≡ bytes → IsClean bytes
 clean_when_escaped text bytes e k =
     let past : length bytes ≤ k → begins_badly (drop k bytes) ≡ false = λ h. ap begins_badly (drop_all k bytes h) in
     let inside : k < length bytes → begins_badly (drop k bytes) ≡ false = λ h.
-    let l : k < length (escaped text) = subst (λ bs. k < length bs) (sym e) h in
-    subst (λ bs. begins_badly (drop k bs) ≡ false) (append-nil (escaped text) ∙ e) (escaped_clean text [] k l) in
+    let l : k < length (escape_of text) = subst (λ bs. k < length bs) (sym e) h in
+    subst (λ bs. begins_badly (drop k bs) ≡ false) (append-nil (escape_of text) ∙ e) (escaped_clean text [] k l) in
     ⊎_elim inside past (cases_lt k (length bytes))
 
-pub first_bad_after : (text rest bytes : List ℕ) → escaped text ++ rest ≡ bytes → begins_badly rest ≡ true →
+pub first_bad_after : (text rest bytes : List ℕ) → escape_of text ++ rest ≡ bytes → begins_badly rest ≡ true →
     IsFirstBad bytes (length bytes - length rest)
 first_bad_after text rest bytes e bad =
-    let place : length bytes - length rest ≡ length (escaped text) = omega (arith, length-append (escaped text) rest, ap length e) in
-    let first : IsFirstBad (escaped text ++ rest) (length (escaped text)) = record {
-      here = ap begins_badly (drop-append_seam (escaped text) rest) ∙ bad;
+    let place : length bytes - length rest ≡ length (escape_of text) = omega (arith, length-append (escape_of text) rest, ap length e) in
+    let first : IsFirstBad (escape_of text ++ rest) (length (escape_of text)) = record {
+      here = ap begins_badly (drop-append_seam (escape_of text) rest) ∙ bad;
       before = λ k l. escaped_clean text rest k l;
     } in
-    rw place (subst (λ bs. IsFirstBad bs (length (escaped text))) e first)
+    rw place (subst (λ bs. IsFirstBad bs (length (escape_of text))) e first)
 
 -- Where nothing is left, what was read spells all bytes.
 pub all_spelled : (front rest bytes : List ℕ) (r : Bool) → front ++ rest ≡ bytes → r ≡ (length rest == 0) → r ≡ true → front ≡ bytes
