@@ -3,8 +3,8 @@ use Rattle.std.proofs.Common.{◌≡◌, ◌≢◌, ℕ, ◌-◌, ◌<◌, ◌�
 use Rattle.std.specs.Str.{IsUtf8}
 use Rattle.std.proofs.lemmas.List.{nil_from_length}
 use Rattle.html_names.specs.JsStrings.{js_string, BeginsNoString, BeginsWithString}
-use Rattle.html_names.proofs.JsReading.{one_string}
-use Rattle.html_names.proofs.Utf8.{utf8_ascii}
+use Rattle.html_names.proofs.JsStringsLemmas.{one_string}
+use Rattle.html_names.proofs.Utf8Lemmas.{utf8_ascii}
 use Rattle.fizz_instructions.specs.Bodies.{IsInstruction, arguments_of, digest_argument, function_of, id_of}
 use Rattle.fizz_instructions.specs.Reading.{AreArgumentsOf, AreIds, AreNoArguments, AreNoIds, BeginsNoId, BeginsWithId}
 use Rattle.fizz_instructions.specs.declared.functions.Function.TheVariants.{CompleteBoundary, CompleteSegment, ClientRenderBoundary}

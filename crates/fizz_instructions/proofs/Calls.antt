@@ -12,7 +12,7 @@ use Rattle.fizz_instructions.specs.declared.functions.Function.TheVariants.{Comp
 use Rattle.fizz_instructions.specs.declared.instruction.Instruction.{Instruction}
 use Rattle.fizz_instructions.specs.declared.instruction.SentFunctions.{SentFunctions}
 use Rattle.fizz_instructions.specs.Sending.{has}
-use Rattle.html_names.proofs.JsReading.{apart_bools}
+use Rattle.html_names.proofs.JsStringsLemmas.{apart_bools}
 use Rattle.fizz_instructions.proofs.Arguments.{one_instruction}
 use Rattle.fizz_instructions.proofs.Lists.{same_after, same_before}
 

@@ -5,7 +5,7 @@ use Rattle.std.specs.Str.{IsUtf8}
 use Rattle.std.proofs.lemmas.Str.{IsUtf8-append}
 use Rattle.fizz_text.specs.Hexadecimal.{hexadecimal}
 use Rattle.html_names.specs.JsStrings.{js_string, BeginsNoString, BeginsWithString}
-use Rattle.html_names.proofs.JsReading.{one_string}
+use Rattle.html_names.proofs.JsStringsLemmas.{one_string}
 use Rattle.fizz_instructions.specs.Bodies.{id_of}
 use Rattle.fizz_instructions.specs.Reading.{AreIds, AreNoIds, BeginsNoId, BeginsWithId}
 use Rattle.fizz_instructions.proofs.Lists.{same_after}

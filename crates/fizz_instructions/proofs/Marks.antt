@@ -8,10 +8,10 @@ use Rattle.std.proofs.lemmas.Str.{IsUtf8-append, IsUtf8-nil}
 use Rattle.std.proofs.Math.ListN.{get_or-append}
 use Rattle.std.proofs.Math.Seq.{get_or-append_right, get_or-append_seam}
 use Rattle.html_names.specs.JsStrings.{js_string}
-use Rattle.html_names.proofs.Fronts.{and_both}
-use Rattle.html_names.proofs.JsReading.{string_utf8}
-use Rattle.html_names.proofs.NoMark.{string_no_mark}
-use Rattle.html_names.proofs.Utf8.{AreAscii, utf8_ascii}
+use Rattle.html_names.proofs.EscapedPrefixLemmas.{and_both}
+use Rattle.html_names.proofs.JsStringsLemmas.{string_utf8}
+use Rattle.html_names.proofs.JsStringsMarkLemmas.{string_no_mark}
+use Rattle.html_names.proofs.Utf8Lemmas.{AreAscii, utf8_ascii}
 use Rattle.fizz_instructions.specs.Bodies.{IsInstruction, arguments_of, body_of, boundary_id, call_of, digest_argument, function_of, placeholder_id, script_of, segment_id}
 use Rattle.fizz_instructions.specs.Functions.{name_of, text_of, complete_boundary_text, complete_segment_text, client_render_text}
 use Rattle.fizz_instructions.specs.declared.functions.Function.{Function}

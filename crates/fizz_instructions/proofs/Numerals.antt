@@ -9,7 +9,7 @@ use Rattle.std.proofs.lemmas.Int.Digits.{length-digits_of_step, all_below_base_d
 use Rattle.std.proofs.lemmas.Result.{Ok-from_Ok_iff}
 use Rattle.fizz_text.specs.Hexadecimal.{IsHexDigit, hexadecimal, hex_digit}
 use Rattle.fizz_text.proofs.HexadecimalLemmas.{value_of_digit, digit_is, values_of_digits}
-use Rattle.html_names.proofs.Utf8.{AreAscii, utf8_ascii}
+use Rattle.html_names.proofs.Utf8Lemmas.{AreAscii, utf8_ascii}
 
 record HasDigits (n : ℕ) : Type 0 where
   digits : List ℕ

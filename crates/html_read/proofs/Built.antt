@@ -9,8 +9,8 @@ use Rattle.std.proofs.lemmas.List.{take_at, drop_at, drop-drop}
 use Rattle.std.proofs.lemmas.Slice.Eq.{bytes_eq-Decides, starts_is}
 use Rattle.fizz_text.specs.declared.attribute.Attr.{Attr}
 use Rattle.html_names.specs.Escape.{escape_of, IsFirstBad}
-use Rattle.html_names.proofs.Unescaping.{clean_when_escaped}
-use Rattle.html_names.proofs.Utf8.{AreAscii, utf8_ascii}
+use Rattle.html_names.proofs.UnescapeLemmas.{clean_when_escaped}
+use Rattle.html_names.proofs.Utf8Lemmas.{AreAscii, utf8_ascii}
 use Rattle.html_read.specs.declared.token.Token.{Token}
 use Rattle.html_read.specs.declared.token.Token.TheVariants.{Start, End, Void, Text, Comment, Script}
 use Rattle.html_read.specs.Names.{is_letter, is_digit, continues_attribute_name, IsTagName, IsAttributeName}

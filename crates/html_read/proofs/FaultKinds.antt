@@ -7,7 +7,7 @@ use Rattle.std.proofs.lemmas.List.{nil_from_length}
 use Rattle.std.proofs.lemmas.Str.{IsUtf8-append}
 use Rattle.fizz_text.specs.declared.attribute.Attr.{Attr}
 use Rattle.html_names.specs.Escape.{escape_of, entities}
-use Rattle.html_names.proofs.Utf8.{escaped_utf8, utf8_ascii, AreAscii}
+use Rattle.html_names.proofs.Utf8Lemmas.{escaped_utf8, utf8_ascii, AreAscii}
 use Rattle.html_read.specs.declared.fault.ReadKind.{ReadKind}
 use Rattle.html_read.specs.declared.fault.ReadKind.TheVariants as kinds
 use Rattle.html_read.specs.declared.place.Tail.{Tail}

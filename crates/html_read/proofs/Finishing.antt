@@ -4,7 +4,7 @@ use Rattle.std.specs.Prelude.{option_to_list}
 use Rattle.std.proofs.lemmas.Bool.{cases_Bool, eqb-true, eqb-false}
 use Rattle.std.proofs.lemmas.List.{nil_from_length}
 use Rattle.html_names.specs.Escape.{spelling_of, escape_of}
-use Rattle.html_names.proofs.Escaping.{spelling_some}
+use Rattle.html_names.proofs.EscapeLemmas.{spelling_some}
 use Rattle.html_read.specs.declared.token.Token.{Token}
 use Rattle.html_read.specs.declared.token.Token.TheVariants as toks
 use Rattle.html_read.specs.declared.fault.ReadKind.{ReadKind}

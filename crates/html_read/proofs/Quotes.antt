@@ -7,7 +7,7 @@ use Rattle.std.proofs.lemmas.Slice.Eq.{bytes_eq-Decides}
 use Rattle.std.proofs.lemmas.List.{take_at}
 use Rattle.fizz_text.specs.declared.attribute.Attr.{Attr}
 use Rattle.html_names.specs.Escape.{spelling_of, escape_of, entities, is_open_entity}
-use Rattle.html_names.proofs.Escaping.{each_byte, plain_spelling}
+use Rattle.html_names.proofs.EscapeLemmas.{each_byte, plain_spelling}
 use Rattle.html_read.specs.declared.place.Place.{Place}
 use Rattle.html_read.specs.declared.place.Place.TheVariants.{Whole, Char, Entity}
 use Rattle.html_read.specs.Names.{is_letter, continues_attribute_name, IsTagName, IsAttributeName}

@@ -6,7 +6,7 @@ use Rattle.std.proofs.lemmas.List.{drop_at}
 use Rattle.std.proofs.lemmas.Str.{encode_ascii}
 use Rattle.std.proofs.Math.Utf8.{encode, encodes, scalar, scalars}
 use Rattle.html_names.specs.Escape.{spelling_of, escape_of, entities}
-use Rattle.html_names.proofs.Escaping.{each_byte, plain_spelling}
+use Rattle.html_names.proofs.EscapeLemmas.{each_byte, plain_spelling}
 use Rattle.html_read.specs.declared.place.Place.{Place}
 use Rattle.html_read.specs.declared.place.Place.TheVariants.{Whole, Entity}
 use Rattle.html_read.specs.declared.place.RunFault.{RunFault}

@@ -8,8 +8,8 @@ use Rattle.std.proofs.lemmas.List.Concat.{flat_map-append}
 use Rattle.std.proofs.lemmas.Slice.Eq.{bytes_eq-Decides}
 use Rattle.std.proofs.lemmas.Str.{IsUtf8-append}
 use Rattle.html_names.specs.Escape.{spelling_of, escape_of, entities}
-use Rattle.html_names.proofs.Escaping.{plain_spelling}
-use Rattle.html_names.proofs.Utf8.{utf8_ascii}
+use Rattle.html_names.proofs.EscapeLemmas.{plain_spelling}
+use Rattle.html_names.proofs.Utf8Lemmas.{utf8_ascii}
 use Rattle.html_read.specs.declared.place.Tail.{Tail}
 use Rattle.html_read.specs.declared.place.Tail.TheVariants.{One, Two, Three, AfterE0, AfterEd, AfterF0, AfterF4}
 use Rattle.html_read.specs.declared.place.Place.{Place}

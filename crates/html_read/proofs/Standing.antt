@@ -5,7 +5,7 @@ use Rattle.std.proofs.lemmas.List.Concat.{flat_map-append}
 use Rattle.std.proofs.lemmas.List.{take_at}
 use Rattle.std.proofs.lemmas.Str.{IsUtf8-nil}
 use Rattle.html_names.specs.Escape.{spelling_of, escape_of}
-use Rattle.html_names.proofs.Escaping.{each_byte, plain_spelling}
+use Rattle.html_names.proofs.EscapeLemmas.{each_byte, plain_spelling}
 use Rattle.html_read.specs.declared.token.Token.{Token}
 use Rattle.html_read.specs.declared.token.Token.TheVariants as toks
 use Rattle.html_read.specs.declared.fault.ReadKind.{ReadKind}

@@ -6,7 +6,7 @@ use Rattle.std.proofs.lemmas.Bool.{cond-true, cases_Bool, ne_eqb, eqb-true, eqb-
 use Rattle.std.proofs.lemmas.List.{append_cancel_right, append_cancel_left, take_at, nil_from_length}
 use Rattle.fizz_text.specs.declared.attribute.Attr.{Attr}
 use Rattle.html_names.specs.Escape.{spelling_of, escape_of}
-use Rattle.html_names.proofs.Escaping.{each_byte, plain_spelling, escaped_injective, spelling_some}
+use Rattle.html_names.proofs.EscapeLemmas.{each_byte, plain_spelling, escaped_injective, spelling_some}
 use Rattle.html_names.specs.declared.comments.CommentKind.{CommentKind}
 use Rattle.html_names.specs.declared.comments.CommentKind.TheVariants as kind
 use Rattle.html_read.specs.declared.token.Token.{Token}
