@@ -35,7 +35,7 @@ element_named name None e s = absurd cc
 pub element_is_plain : (name : List ℕ) → IsElementName name → is_plain_name name ≡ true
 element_is_plain name h = element_named name (void_flag name) refl h
 
-wider : (upper lower digit dash : Bool) → (lower || digit || dash) ≡ true → (upper || lower || digit || dash) ≡ true
+wider : (upper lower digit dash : Bool) → (lower || (digit || dash)) ≡ true → (upper || lower || (digit || dash)) ≡ true
 wider true lower digit dash h = refl
 wider false lower digit dash h = h
 

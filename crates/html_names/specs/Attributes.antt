@@ -35,7 +35,7 @@ attribute_rows =
 
 -- A byte that may follow `aria-` and `data-`: a to z, 0 to 9 and `-`.
 abbrev pub is_suffix_byte : ℕ → Bool
-is_suffix_byte b = is_small_letter b || is_digit b || b == hyphen
+is_suffix_byte b = is_small_letter b || (is_digit b || b == hyphen)
 
 -- `aria-` or `data-` begins the name.
 abbrev pub has_prefix : List ℕ → Bool

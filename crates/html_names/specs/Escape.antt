@@ -30,7 +30,7 @@ begins_entity bytes = list_any (λ e. bytes_eq (take (length e) bytes) e) entiti
 
 -- One of `"`, `'`, `<` and `>`.
 abbrev pub is_mark : ℕ → Bool
-is_mark b = b == quotation_mark || b == apostrophe || b == less_than_sign || b == greater_than_sign
+is_mark b = b == quotation_mark || (b == apostrophe || (b == less_than_sign || b == greater_than_sign))
 
 -- The bytes begin with what no escaped text has at any place: one of `"`, `'`, `<`, `>`, or an `&` that begins
 -- none of the five replacements.

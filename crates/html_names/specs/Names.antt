@@ -19,7 +19,7 @@ is_digit b = nat_le digit_0 b && nat_le b digit_9
 
 -- A letter, a digit or `-`.
 abbrev pub is_name_byte : ℕ → Bool
-is_name_byte b = is_letter b || is_digit b || b == hyphen
+is_name_byte b = is_letter b || (is_digit b || b == hyphen)
 
 -- A letter, followed by letters, digits and `-`. Each name that is printed is one.
 abbrev pub is_plain_name : List ℕ → Bool

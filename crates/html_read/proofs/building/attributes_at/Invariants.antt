@@ -3,7 +3,7 @@ use Rattle.fizz_text.specs.declared.attribute.Attr.{Attr}
 use Rattle.html_read.specs.Building.{EndsTag}
 use Rattle.html_names.specs.Printing.{attributes_spelling}
 use Rattle.html_read.specs.Tokens.{AreAttributes}
-use Rattle.html_read.proofs.Built.{Left}
+use Rattle.html_read.proofs.BuildingLemmas.{Left}
 use Rattle.html_read.proofs.building.attributes_at.Given as goal
 
 abbrev pub invariant-attributes : goal.invariant-attributes

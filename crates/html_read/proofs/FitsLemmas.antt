@@ -23,15 +23,16 @@ use Rattle.html_read.specs.declared.place.RunFault.{RunFault}
 use Rattle.html_read.specs.declared.place.RunFault.TheVariants as faults
 use Rattle.html_read.specs.declared.machine.Mode.{Mode}
 use Rattle.html_read.specs.declared.machine.Mode.TheVariants.{Text, Name, EndName, Comment, Script, Space, Attribute, Equals, Value, Close, Slash}
-use Rattle.html_read.specs.declared.machine.Turn.{Turn}
-use Rattle.html_read.specs.declared.machine.Turn.TheVariants.{Goes, Ends, Cuts, Fails}
-use Rattle.html_read.specs.Names.{is_letter, is_digit, continues_attribute_name, IsAttributeName}
+use Rattle.html_read.specs.declared.machine.Transition.{Transition}
+use Rattle.html_read.specs.declared.machine.Transition.TheVariants.{Goes, Ends, Cuts, Fails}
+use Rattle.html_names.specs.Names.{is_letter, is_digit, is_name_byte}
+use Rattle.html_read.specs.Names.{IsAttributeName}
 use Rattle.html_names.specs.Printing.{attribute_spelling, attributes_spelling, tag_prefix}
 use Rattle.html_names.specs.Comments.{comment_data}
 use Rattle.html_read.specs.Tokens.{IsAttribute, AreAttributes, script_end, IsScriptBody, spelling, IsToken, place_of, is_text}
-use Rattle.html_read.specs.Machine.{is_word, begins_word, tag_words, start_words, comment_words, tag_flag, next_within, tail_after, starts_char, entity_after, place_after, text_turn, value_turn, close_turn, flag_turn, after_name, name_turn, end_flag_turn, end_name_turn, comment_turn, script_turn, space_turn, attribute_turn, equals_turn, slash_turn, turn_of}
-use Rattle.html_read.proofs.WordFronts.{none_true, tag_of_flag, void_of_flag}
-use Rattle.html_read.proofs.Runs.{HasRun, HasWhole, place_keeps}
+use Rattle.html_read.specs.Machine.{is_word, begins_word, tag_words, start_words, comment_words, tag_flag, next_within, tail_after, starts_char, entity_after, place_after, text_transition, value_transition, close_transition, flag_transition, after_name, name_transition, end_flag_transition, end_name_transition, comment_transition, script_transition, space_transition, attribute_transition, equals_transition, slash_transition, transition_of}
+use Rattle.html_read.proofs.WordLemmas.{none_true, tag_of_flag, void_of_flag}
+use Rattle.html_read.proofs.HasRunLemmas.{HasRun, HasWhole, place_keeps}
 
 -- A tag up to the end of its name or of an attribute; whether it is void.
 pub record HasTag (v : Bool) (front : List ℕ) : Type 0 where
@@ -122,13 +123,13 @@ Fits Slash seen = InSlash seen
 -- The bytes are a token, wherever it stands: a text or another.
 pub record IsSpelling (text : Bool) (bytes : List ℕ) (from : ℕ) : Type 0 where
   pub tok : Token
-  pub is_tok : IsToken tok
+  pub is_token : IsToken tok
   pub spelled : bytes ≡ spelling tok
   pub text_is : is_text tok ≡ text
   pub place_is : place_of tok ≡ from
 
 -- What a byte does is right.
-abbrev pub IsGoodTurn : List ℕ → ℕ → Turn → Type 0
+abbrev pub IsGoodTurn : List ℕ → ℕ → Transition → Type 0
 IsGoodTurn seen b (Goes mode) = Fits mode (seen ++ b ∷ [])
 IsGoodTurn seen b Ends = (from : ℕ) → IsSpelling false (seen ++ b ∷ []) from
 IsGoodTurn seen b Cuts = (b ≡ 60) × ((from : ℕ) → IsSpelling true seen from)
@@ -172,14 +173,14 @@ byte_is_whole base (Entity start) run token b h e = absurd (entity_no_byte start
 pub whole_text : (run : List ℕ) (from : ℕ) → HasWhole run → run ≢ [] → IsSpelling true run from
 whole_text run from h n = record {
   tok = toks.Text h.text from;
-  is_tok = (λ e. n (h.is ∙ ap escape_of e), h.utf8);
+  is_token = (λ e. n (h.is ∙ ap escape_of e), h.utf8);
   spelled = h.is;
   text_is = refl;
   place_is = refl;
 }
 
 text_good : (p : Place) (seen : List ℕ) (b : ℕ) → HasRun 0 p seen → (r : Result Place RunFault) → place_after p (seen ++ b ∷ []) b ≡ r
-    → IsGoodTurn seen b (text_turn (length (seen ++ b ∷ [])) b r)
+    → IsGoodTurn seen b (text_transition (length (seen ++ b ∷ [])) b r)
 text_good p seen b h (Ok q) e = place_keeps [] seen p q b h e
 text_good p seen b h (Err faults.Byte) e =
     cond_both (b == 60) _ _ (IsGoodTurn seen b) (λ is60.
@@ -207,12 +208,12 @@ more_attributes v front a h fine = record {
 }
 
 -- After a whole name or an attribute.
-close_good : (v : Bool) (seen : List ℕ) (b : ℕ) → HasTag v seen → IsGoodTurn seen b (close_turn v b)
+close_good : (v : Bool) (seen : List ℕ) (b : ℕ) → HasTag v seen → IsGoodTurn seen b (close_transition v b)
 close_good v seen b h =
     cond_both (b == 32) _ _ (IsGoodTurn seen b) (λ e. record { front = seen; tag = h; is = ap (λ x. seen ++ x ∷ []) (eqb-true b 32 e) }) (λ n32.
     cond_both (b == 62) _ _ (IsGoodTurn seen b) (λ e from. record {
       tok = toks.Start h.name h.attributes from;
-      is_tok = (tag_of_flag h.name v h.flag, h.are);
+      is_token = (tag_of_flag h.name v h.flag, h.are);
       spelled = (λ i. h.is i ++ eqb-true b 62 e i ∷ []);
       text_is = refl;
       place_is = refl;
@@ -221,7 +222,7 @@ close_good v seen b h =
     let p : ((b == 47) ≡ true) × (v ≡ true) = and_parts _ _ e in
     record { front = seen; tag = subst (λ w. HasTag w seen) p.1 h; is = ap (λ x. seen ++ x ∷ []) (eqb-true b 47 p.0) }) (λ n. tt)))
 
-flag_good : (name : List ℕ) (b : ℕ) (o : Option Bool) → tag_flag name ≡ o → IsGoodTurn (60 ∷ name) b (flag_turn o b)
+flag_good : (name : List ℕ) (b : ℕ) (o : Option Bool) → tag_flag name ≡ o → IsGoodTurn (60 ∷ name) b (flag_transition o b)
 flag_good name b None e = tt
 flag_good name b (Some v) e =
     cond_both (is_letter b || is_digit b) _ _ (IsGoodTurn (60 ∷ name) b) (λ l. tt) (λ n.
@@ -247,22 +248,22 @@ after_good name b =
     record { body = []; fine = no_script_end; is = (λ i. 60 ∷ (bytes_eq-Decides name (codes "script")).0 s i ++ eqb-true b 62 e i ∷ []) }) (λ n. tt)) (λ n.
     flag_good name b (tag_flag name) refl))
 
-name_good : (name : List ℕ) (b : ℕ) → IsGoodTurn (60 ∷ name) b (name_turn name (name ++ b ∷ []) b)
+name_good : (name : List ℕ) (b : ℕ) → IsGoodTurn (60 ∷ name) b (name_transition name (name ++ b ∷ []) b)
 name_good name b =
     cond_both (begins_word start_words (name ++ b ∷ [])) _ _ (IsGoodTurn (60 ∷ name) b) (λ g. record { name = name ++ b ∷ []; begins = g; is = refl }) (λ n. after_good name b)
 
-end_flag_good : (name : List ℕ) (b : ℕ) (o : Option Bool) → tag_flag name ≡ o → IsGoodTurn (60 ∷ 47 ∷ name) b (end_flag_turn o b)
+end_flag_good : (name : List ℕ) (b : ℕ) (o : Option Bool) → tag_flag name ≡ o → IsGoodTurn (60 ∷ 47 ∷ name) b (end_flag_transition o b)
 end_flag_good name b None e = tt
 end_flag_good name b (Some v) e =
     cond_both (b == 62) _ _ (IsGoodTurn (60 ∷ 47 ∷ name) b) (λ s from. record {
       tok = toks.End name from;
-      is_tok = tag_of_flag name v e;
+      is_token = tag_of_flag name v e;
       spelled = (λ i. 60 ∷ 47 ∷ name ++ eqb-true b 62 s i ∷ []);
       text_is = refl;
       place_is = refl;
     }) (λ n. tt)
 
-end_name_good : (name : List ℕ) (b : ℕ) → IsGoodTurn (60 ∷ 47 ∷ name) b (end_name_turn name (name ++ b ∷ []) b)
+end_name_good : (name : List ℕ) (b : ℕ) → IsGoodTurn (60 ∷ 47 ∷ name) b (end_name_transition name (name ++ b ∷ []) b)
 end_name_good name b =
     cond_both (begins_word tag_words (name ++ b ∷ [])) _ _ (IsGoodTurn (60 ∷ 47 ∷ name) b) (λ g. record { name = name ++ b ∷ []; begins = g; is = refl }) (λ n.
     end_flag_good name b (tag_flag name) refl)
@@ -284,11 +285,11 @@ comment_word word h1 =
     ⊎_elim (said_at word kind.Space) (λ h6. absurd (none_true h6))
     (or_cases _ _ h5)) (or_cases _ _ h4)) (or_cases _ _ h3)) (or_cases _ _ h2)) (or_cases _ _ h1)
 
-comment_good : (word : List ℕ) (b : ℕ) → IsGoodTurn (60 ∷ 33 ∷ word) b (comment_turn (word ++ b ∷ []))
+comment_good : (word : List ℕ) (b : ℕ) → IsGoodTurn (60 ∷ 33 ∷ word) b (comment_transition (word ++ b ∷ []))
 comment_good word b =
     cond_both (is_word comment_words (word ++ b ∷ [])) _ _ (IsGoodTurn (60 ∷ 33 ∷ word) b) (λ w from.
     let s : IsSaid (word ++ b ∷ []) = comment_word (word ++ b ∷ []) w in
-    record { tok = toks.Comment s.which from; is_tok = tt; spelled = ap (λ x. 60 ∷ 33 ∷ x) s.is; text_is = refl; place_is = refl }) (λ n.
+    record { tok = toks.Comment s.which from; is_token = tt; spelled = ap (λ x. 60 ∷ 33 ∷ x) s.is; text_is = refl; place_is = refl }) (λ n.
     cond_both (begins_word comment_words (word ++ b ∷ [])) _ _ (IsGoodTurn (60 ∷ 33 ∷ word) b) (λ g. record { word = word ++ b ∷ []; begins = g; open_still = n; is = refl }) (λ m. tt))
 
 -- A list is empty or has a last element.
@@ -314,15 +315,15 @@ script_goes body b fine n before after e =
     e ∙ (ap (λ x. before ++ (script_end ++ x)) s.2 ∙ (ap (λ x. before ++ x) (sym (append_assoc script_end s.0 (s.1 ∷ []))) ∙ sym (append_assoc before (script_end ++ s.0) (s.1 ∷ [])))) in
     fine before s.0 ((same_from_push body _ b s.1 inner).0)) (snoc after)
 
-script_good : (body : List ℕ) (b : ℕ) → IsScriptBody body → IsGoodTurn (codes "<script>" ++ body) b (script_turn (body ++ b ∷ []))
+script_good : (body : List ℕ) (b : ℕ) → IsScriptBody body → IsGoodTurn (codes "<script>" ++ body) b (script_transition (body ++ b ∷ []))
 script_good body b fine =
     cond_both (ends_with nat_eq (body ++ b ∷ []) script_end) _ _ (IsGoodTurn (codes "<script>" ++ body) b) (λ w from.
     let inner : List ℕ = take (length (body ++ b ∷ []) - length script_end) (body ++ b ∷ []) in
     let cut : body ++ b ∷ [] ≡ inner ++ script_end = (ends_is Decides-eqb (body ++ b ∷ []) script_end _ refl).0 w in
-    record { tok = toks.Script inner from; is_tok = script_ends body b inner fine (sym cut); spelled = ap (λ x. codes "<script>" ++ x) cut; text_is = refl; place_is = refl }) (λ n.
+    record { tok = toks.Script inner from; is_token = script_ends body b inner fine (sym cut); spelled = ap (λ x. codes "<script>" ++ x) cut; text_is = refl; place_is = refl }) (λ n.
     record { body = body ++ b ∷ []; fine = script_goes body b fine n; is = refl })
 
-space_good : (v : Bool) (front : List ℕ) (b : ℕ) → HasTag v front → IsGoodTurn (front ++ 32 ∷ []) b (space_turn v (length (front ++ 32 ∷ [] ++ b ∷ [])) b)
+space_good : (v : Bool) (front : List ℕ) (b : ℕ) → HasTag v front → IsGoodTurn (front ++ 32 ∷ []) b (space_transition v (length (front ++ 32 ∷ [] ++ b ∷ [])) b)
 space_good v front b h =
     cond_both (is_letter b) _ _ (IsGoodTurn (front ++ 32 ∷ []) b) (λ l. record {
       front = front;
@@ -337,16 +338,16 @@ all_push : (test : ℕ → Bool) (xs : List ℕ) (b : ℕ) → list_all test xs 
 all_push test [] b h t = and_from _ _ t refl
 all_push test (x ∷ xs) b h t = let p : (test x ≡ true) × (list_all test xs ≡ true) = and_parts _ _ h in and_from _ _ p.0 (all_push test xs b p.1 t)
 
-name_push : (name : List ℕ) (b : ℕ) → IsAttributeName name → continues_attribute_name b ≡ true → IsAttributeName (name ++ b ∷ [])
+name_push : (name : List ℕ) (b : ℕ) → IsAttributeName name → is_name_byte b ≡ true → IsAttributeName (name ++ b ∷ [])
 name_push [] b h t = absurd h
-name_push (x ∷ xs) b h t = (h.0, all_push continues_attribute_name xs b h.1 t)
+name_push (x ∷ xs) b h t = (h.0, all_push is_name_byte xs b h.1 t)
 
 attribute_good : (v : Bool) (start : ℕ) (front name : List ℕ) (b : ℕ) → HasTag v front → IsAttributeName name → start ≡ length front + 1
-    → IsGoodTurn (front ++ 32 ∷ name) b (attribute_turn v start (drop start (front ++ 32 ∷ name)) b)
+    → IsGoodTurn (front ++ 32 ∷ name) b (attribute_transition v start (drop start (front ++ 32 ∷ name)) b)
 attribute_good v start front name b h named starts =
     let cut : drop start (front ++ 32 ∷ name) ≡ name =
     ap (drop start) (sym (append_assoc front (32 ∷ []) name)) ∙ drop_at (front ++ 32 ∷ []) name start (omega (arith, length-append front (32 ∷ []))) in
-    cond_both (continues_attribute_name b) _ _ (IsGoodTurn (front ++ 32 ∷ name) b) (λ c. record {
+    cond_both (is_name_byte b) _ _ (IsGoodTurn (front ++ 32 ∷ name) b) (λ c. record {
       front = front;
       name = name ++ b ∷ [];
       tag = h;
@@ -366,7 +367,7 @@ attribute_good v start front name b h named starts =
     let a : Attr = record { name = name; value = None } in
     close_good v (front ++ 32 ∷ name) b (subst (λ x. HasTag v (front ++ 32 ∷ x)) (append-nil name) (more_attributes v front a h (named, hidden)))) (λ m. tt)))
 
-equals_good : (v : Bool) (front name : List ℕ) (b : ℕ) → HasTag v front → IsAttributeName name → IsGoodTurn (front ++ (32 ∷ name ++ 61 ∷ [])) b (equals_turn v b)
+equals_good : (v : Bool) (front name : List ℕ) (b : ℕ) → HasTag v front → IsAttributeName name → IsGoodTurn (front ++ (32 ∷ name ++ 61 ∷ [])) b (equals_transition v b)
 equals_good v front name b h named =
     cond_both (b == 34) _ _ (IsGoodTurn (front ++ (32 ∷ name ++ 61 ∷ [])) b) (λ e. record {
       front = front;
@@ -379,7 +380,7 @@ equals_good v front name b h named =
     }) (λ n. tt)
 
 value_good : (v : Bool) (p : Place) (front name run : List ℕ) (b : ℕ) → HasTag v front → IsAttributeName name → HasRun (length (opening front name)) p run
-    → (r : Result Place RunFault) → place_after p (opening front name ++ run ++ b ∷ []) b ≡ r → IsGoodTurn (opening front name ++ run) b (value_turn v b r)
+    → (r : Result Place RunFault) → place_after p (opening front name ++ run ++ b ∷ []) b ≡ r → IsGoodTurn (opening front name ++ run) b (value_transition v b r)
 value_good v p front name run b h named has (Ok q) e = record {
   front = front;
   name = name;
@@ -403,29 +404,29 @@ value_good v p front name run b h named has (Err faults.Byte) e =
 value_good v p front name run b h named has (Err faults.Entity) e = tt
 value_good v p front name run b h named has (Err faults.Utf8) e = tt
 
-slash_good : (front : List ℕ) (b : ℕ) → HasTag true front → IsGoodTurn (front ++ 47 ∷ []) b (slash_turn b)
+slash_good : (front : List ℕ) (b : ℕ) → HasTag true front → IsGoodTurn (front ++ 47 ∷ []) b (slash_transition b)
 slash_good front b h =
     cond_both (b == 62) _ _ (IsGoodTurn (front ++ 47 ∷ []) b) (λ e from. record {
       tok = toks.Void h.name h.attributes from;
-      is_tok = (void_of_flag h.name h.flag, h.are);
+      is_token = (void_of_flag h.name h.flag, h.are);
       spelled = append_assoc front (47 ∷ []) (b ∷ []) ∙ (λ i. h.is i ++ 47 ∷ eqb-true b 62 e i ∷ []);
       text_is = refl;
       place_is = refl;
     }) (λ n. tt)
 
 -- Whatever a byte does in a mode that fits is right.
-pub turn_good : (mode : Mode) (seen : List ℕ) (b : ℕ) → Fits mode seen → IsGoodTurn seen b (turn_of mode seen (seen ++ b ∷ []) b)
+pub turn_good : (mode : Mode) (seen : List ℕ) (b : ℕ) → Fits mode seen → IsGoodTurn seen b (transition_of mode seen (seen ++ b ∷ []) b)
 turn_good (Text p) seen b h = text_good p seen b h (place_after p (seen ++ b ∷ []) b) refl
-turn_good Name seen b h = subst (λ s. IsGoodTurn s b (turn_of Name s (s ++ b ∷ []) b)) (sym h.is) (name_good h.name b)
-turn_good EndName seen b h = subst (λ s. IsGoodTurn s b (turn_of EndName s (s ++ b ∷ []) b)) (sym h.is) (end_name_good h.name b)
-turn_good Comment seen b h = subst (λ s. IsGoodTurn s b (turn_of Comment s (s ++ b ∷ []) b)) (sym h.is) (comment_good h.word b)
-turn_good Script seen b h = subst (λ s. IsGoodTurn s b (turn_of Script s (s ++ b ∷ []) b)) (sym h.is) (script_good h.body b h.fine)
-turn_good (Space v) seen b h = subst (λ s. IsGoodTurn s b (turn_of (Space v) s (s ++ b ∷ []) b)) (sym h.is) (space_good v h.front b h.tag)
-turn_good (Attribute v start) seen b h = subst (λ s. IsGoodTurn s b (turn_of (Attribute v start) s (s ++ b ∷ []) b)) (sym h.is) (attribute_good v start h.front h.name b h.tag h.named h.starts)
-turn_good (Equals v) seen b h = subst (λ s. IsGoodTurn s b (turn_of (Equals v) s (s ++ b ∷ []) b)) (sym h.is) (equals_good v h.front h.name b h.tag h.named)
+turn_good Name seen b h = subst (λ s. IsGoodTurn s b (transition_of Name s (s ++ b ∷ []) b)) (sym h.is) (name_good h.name b)
+turn_good EndName seen b h = subst (λ s. IsGoodTurn s b (transition_of EndName s (s ++ b ∷ []) b)) (sym h.is) (end_name_good h.name b)
+turn_good Comment seen b h = subst (λ s. IsGoodTurn s b (transition_of Comment s (s ++ b ∷ []) b)) (sym h.is) (comment_good h.word b)
+turn_good Script seen b h = subst (λ s. IsGoodTurn s b (transition_of Script s (s ++ b ∷ []) b)) (sym h.is) (script_good h.body b h.fine)
+turn_good (Space v) seen b h = subst (λ s. IsGoodTurn s b (transition_of (Space v) s (s ++ b ∷ []) b)) (sym h.is) (space_good v h.front b h.tag)
+turn_good (Attribute v start) seen b h = subst (λ s. IsGoodTurn s b (transition_of (Attribute v start) s (s ++ b ∷ []) b)) (sym h.is) (attribute_good v start h.front h.name b h.tag h.named h.starts)
+turn_good (Equals v) seen b h = subst (λ s. IsGoodTurn s b (transition_of (Equals v) s (s ++ b ∷ []) b)) (sym h.is) (equals_good v h.front h.name b h.tag h.named)
 turn_good (Value v p) seen b h =
-    subst (λ s. IsGoodTurn s b (turn_of (Value v p) s (s ++ b ∷ []) b)) (sym h.is)
+    subst (λ s. IsGoodTurn s b (transition_of (Value v p) s (s ++ b ∷ []) b)) (sym h.is)
     (value_good v p h.front h.name h.run b h.tag h.named h.has (place_after p (opening h.front h.name ++ h.run ++ b ∷ []) b) refl)
 turn_good (Close v) seen b h =
-    subst (λ s. IsGoodTurn s b (turn_of (Close v) s (s ++ b ∷ []) b)) (sym h.is) (close_good v (h.front ++ attribute_spelling h.attribute) b (more_attributes v h.front h.attribute h.tag h.fine))
-turn_good Slash seen b h = subst (λ s. IsGoodTurn s b (turn_of Slash s (s ++ b ∷ []) b)) (sym h.is) (slash_good h.front b h.tag)
+    subst (λ s. IsGoodTurn s b (transition_of (Close v) s (s ++ b ∷ []) b)) (sym h.is) (close_good v (h.front ++ attribute_spelling h.attribute) b (more_attributes v h.front h.attribute h.tag h.fine))
+turn_good Slash seen b h = subst (λ s. IsGoodTurn s b (transition_of Slash s (s ++ b ∷ []) b)) (sym h.is) (slash_good h.front b h.tag)

@@ -17,11 +17,11 @@ use Rattle.html_read.specs.Machine.{go_on, mode_after, mode_of, is_whole_place, 
 use Rattle.html_read.specs.Building.{IsTokenOf}
 use Rattle.html_read.specs.Faults.{ends_in_text}
 use Rattle.html_read.specs.Reading.{HasRead, ReaderState, IsUnfinished, IsLast, IsTextSoFar}
-use Rattle.html_read.proofs.WordFronts.{none_true}
-use Rattle.html_read.proofs.Fits.{IsSpelling, whole_text}
-use Rattle.html_read.proofs.Running.{mode_append, text_mode, text_through}
-use Rattle.html_read.proofs.Passing.{Passes, tok_passes}
-use Rattle.html_read.proofs.Standing.{mode_fits, spellings_push, tokens_push, text_no_tag, text_follows}
+use Rattle.html_read.proofs.WordLemmas.{none_true}
+use Rattle.html_read.proofs.FitsLemmas.{IsSpelling, whole_text}
+use Rattle.html_read.proofs.ModeAfterLemmas.{mode_append, text_mode, text_through}
+use Rattle.html_read.proofs.PassesLemmas.{Passes, tok_passes}
+use Rattle.html_read.proofs.StandsLemmas.{mode_fits, spellings_push, tokens_push, text_no_tag, text_follows}
 
 some_mode : (o : Option Mode) (m n : Mode) → o ≡ Some m → o ≡ Some n → m ≡ n
 some_mode o m n e f = cc
@@ -57,8 +57,8 @@ unfinished held mode sound e some n = record { sound = sound; place_is = refl; s
 pub open_text_is : (held : ReaderState) (mode : Mode) (found : Option Token) → held.fault ≡ None → mode_of held.rest ≡ Some mode → held.rest ≢ [] → mode ≡ Text Whole → IsTokenOf held.rest held.place found → IsLast held found
 open_text_is held mode found sound e some m is =
     let k : IsSpelling true held.rest held.place = whole_text held.rest held.place (mode_fits (Text Whole) held.rest (e ∙ ap (λ x. Some x) m)) some in
-    let f : found ≡ Some k.tok = is k.tok k.is_tok k.spelled k.place_is in
-    subst (IsLast held) (sym f) (record { sound = sound; text = k.text_is; is_tok = k.is_tok; place_is = k.place_is; spelled = k.spelled })
+    let f : found ≡ Some k.tok = is k.tok k.is_token k.spelled k.place_is in
+    subst (IsLast held) (sym f) (record { sound = sound; text = k.text_is; is_token = k.is_token; place_is = k.place_is; spelled = k.spelled })
 
 pub last_so_far : (held : ReaderState) (found : Option Token) → held.rest ≢ [] → IsLast held found → IsTextSoFar held found
 last_so_far held None some h = absurd (some h.1)
@@ -86,10 +86,10 @@ no_text_at_fault : (held : ReaderState) (x : ℕ × ReadKind) → held.fault ≡
 no_text_at_fault held x e tok h = some_none x (sym e ∙ h.sound)
 
 pub no_text_when_empty : (held : ReaderState) → held.rest ≡ [] → IsTextSoFar held None
-no_text_when_empty held e tok h = text_some tok h.is_tok h.text (sym h.spelled ∙ e)
+no_text_when_empty held e tok h = text_some tok h.is_token h.text (sym h.spelled ∙ e)
 
 pub no_text_else : (held : ReaderState) (mode : Mode) → mode_of held.rest ≡ Some mode → mode ≢ Text Whole → IsTextSoFar held None
-no_text_else held mode e n tok h = n (whole_is_text tok held.rest mode e h.is_tok h.spelled)
+no_text_else held mode e n tok h = n (whole_is_text tok held.rest mode e h.is_token h.spelled)
 
 place_whole : (place : Place) → is_whole_place place ≡ true → place ≡ Whole
 place_whole Whole h = refl
@@ -140,6 +140,6 @@ last_whole held (Some tok) h bytes toks r =
     ⊎_elim (λ e. absurd (none_true (sym (text_no_tag tok held.rest h.text h.spelled) ∙ r.split.ended e))) (λ f. f) (cases_Bool (ends_in_text false toks)) in
     record {
       spelled = r.split.whole ∙ (ap (λ x. spellings toks ++ x) h.spelled ∙ sym (spellings_push toks tok));
-      tokens = tokens_push toks tok 0 false r.split.tokens h.is_tok (h.place_is ∙ (r.place_is ∙ omega arith))
+      tokens = tokens_push toks tok 0 false r.split.tokens h.is_token (h.place_is ∙ (r.place_is ∙ omega arith))
           (subst (MayFollow (ends_in_text false toks)) (sym h.text) (text_follows (ends_in_text false toks) before));
     }

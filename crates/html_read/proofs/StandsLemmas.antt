@@ -12,16 +12,16 @@ use Rattle.html_read.specs.declared.fault.ReadKind.{ReadKind}
 use Rattle.html_read.specs.declared.place.Place.TheVariants.{Whole}
 use Rattle.html_read.specs.declared.machine.Mode.{Mode}
 use Rattle.html_read.specs.declared.machine.Mode.TheVariants.{Text, Name}
-use Rattle.html_read.specs.declared.machine.Turn.{Turn}
-use Rattle.html_read.specs.declared.machine.Turn.TheVariants.{Goes, Ends, Cuts, Fails}
+use Rattle.html_read.specs.declared.machine.Transition.{Transition}
+use Rattle.html_read.specs.declared.machine.Transition.TheVariants.{Goes, Ends, Cuts, Fails}
 use Rattle.html_read.specs.Tokens.{spelling, spellings, IsToken, AreTokensFrom, AreTokens, MayFollow, place_of, is_text}
 use Rattle.html_read.specs.Faults.{IsAlive, IsFirstDead, IsBegun, begins_tag, ends_in_text, Splits}
-use Rattle.html_read.specs.Machine.{turn_of, go_on, mode_after, mode_of}
-use Rattle.html_read.proofs.WordFronts.{none_true}
-use Rattle.html_read.proofs.Fits.{Fits, IsSpelling, IsGoodTurn, turn_good}
-use Rattle.html_read.proofs.Running.{mode_append}
-use Rattle.html_read.proofs.Living.{live_on, lives, lives_after, lives_rest, alive_lives}
-use Rattle.html_read.proofs.Beginning.{fits_begun}
+use Rattle.html_read.specs.Machine.{transition_of, go_on, mode_after, mode_of}
+use Rattle.html_read.proofs.WordLemmas.{none_true}
+use Rattle.html_read.proofs.FitsLemmas.{Fits, IsSpelling, IsGoodTurn, turn_good}
+use Rattle.html_read.proofs.ModeAfterLemmas.{mode_append}
+use Rattle.html_read.proofs.IsAliveLemmas.{live_on, lives, lives_after, lives_rest, alive_lives}
+use Rattle.html_read.proofs.IsBegunLemmas.{fits_begun}
 
 -- The mode of a rest fits it.
 some_mode : (m n : Mode) → ◌≡◌ {A = Option Mode} (Some m) (Some n) → m ≡ n
@@ -33,14 +33,14 @@ none_mode n e = cc
 fits_after : (mode next : Mode) (seen bs : List ℕ) → Fits mode seen → mode_after mode seen bs ≡ Some next → Fits next (seen ++ bs)
 fits_after mode next seen [] h e = subst (Fits next) (sym (append-nil seen)) (subst (λ m. Fits m seen) (some_mode mode next e) h)
 fits_after mode next seen (b ∷ bs) h e =
-    let go : (t : Turn) → IsGoodTurn seen b t → go_on t (λ m. mode_after m (seen ++ b ∷ []) bs) ≡ Some next → Fits next (seen ++ b ∷ bs) = λ t.
+    let go : (t : Transition) → IsGoodTurn seen b t → go_on t (λ m. mode_after m (seen ++ b ∷ []) bs) ≡ Some next → Fits next (seen ++ b ∷ bs) = λ t.
     elim t as (λ t. IsGoodTurn seen b t → go_on t (λ m. mode_after m (seen ++ b ∷ []) bs) ≡ Some next → Fits next (seen ++ b ∷ bs)) [
       | Goes m ↦ λ g k. subst (Fits next) (append_assoc seen (b ∷ []) bs) (fits_after m next (seen ++ b ∷ []) bs g k)
       | Ends ↦ λ g k. absurd (none_mode next k)
       | Cuts ↦ λ g k. absurd (none_mode next k)
       | Fails kind ↦ λ g k. absurd (none_mode next k)
     ] in
-    go (turn_of mode seen (seen ++ b ∷ []) b) (turn_good mode seen b h) e
+    go (transition_of mode seen (seen ++ b ∷ []) b) (turn_good mode seen b h) e
 
 pub mode_fits : (mode : Mode) (rest : List ℕ) → mode_of rest ≡ Some mode → Fits mode rest
 unfolding mode_of
@@ -55,7 +55,7 @@ unfolding mode_of
 mode_tag = refl
 
 -- One byte more of the same token.
-pub mode_more : (mode next : Mode) (rest : List ℕ) (b : ℕ) → mode_of rest ≡ Some mode → turn_of mode rest (rest ++ b ∷ []) b ≡ Goes next → mode_of (rest ++ b ∷ []) ≡ Some next
+pub mode_more : (mode next : Mode) (rest : List ℕ) (b : ℕ) → mode_of rest ≡ Some mode → transition_of mode rest (rest ++ b ∷ []) b ≡ Goes next → mode_of (rest ++ b ∷ []) ≡ Some next
 unfolding mode_of
 mode_more mode next rest b e t = mode_append (Text Whole) [] rest (b ∷ []) mode e ∙ ap (λ x. go_on x (λ m. Some m)) t
 
@@ -99,7 +99,7 @@ tag_front_more : (rest : List ℕ) (b : ℕ) → begins_tag rest ≡ true → be
 tag_front_more [] b h = absurd (none_true h)
 tag_front_more (x ∷ rest) b h = h
 
-pub goes : (bytes : List ℕ) (toks : List Token) (mode next : Mode) (rest : List ℕ) (b : ℕ) → Stands bytes toks mode rest → turn_of mode rest (rest ++ b ∷ []) b ≡ Goes next
+pub goes : (bytes : List ℕ) (toks : List Token) (mode next : Mode) (rest : List ℕ) (b : ℕ) → Stands bytes toks mode rest → transition_of mode rest (rest ++ b ∷ []) b ≡ Goes next
     → Stands (bytes ++ b ∷ []) toks next (rest ++ b ∷ [])
 goes bytes toks mode next rest b s t = record {
   whole = ap (λ x. x ++ b ∷ []) s.whole ∙ append_assoc (spellings toks) rest (b ∷ []);
@@ -108,11 +108,11 @@ goes bytes toks mode next rest b s t = record {
   ended = λ e. tag_front_more rest b (s.ended e);
 }
 
-turn_gives : (mode : Mode) (rest : List ℕ) (b : ℕ) (t : Turn) → mode_of rest ≡ Some mode → turn_of mode rest (rest ++ b ∷ []) b ≡ t → IsGoodTurn rest b t
+turn_gives : (mode : Mode) (rest : List ℕ) (b : ℕ) (t : Transition) → mode_of rest ≡ Some mode → transition_of mode rest (rest ++ b ∷ []) b ≡ t → IsGoodTurn rest b t
 turn_gives mode rest b t e is = subst (IsGoodTurn rest b) is (turn_good mode rest b (mode_fits mode rest e))
 
 -- a token that ends with a byte
-pub ending : (mode : Mode) (rest : List ℕ) (b from : ℕ) → mode_of rest ≡ Some mode → turn_of mode rest (rest ++ b ∷ []) b ≡ Ends → IsSpelling false (rest ++ b ∷ []) from
+pub ending : (mode : Mode) (rest : List ℕ) (b from : ℕ) → mode_of rest ≡ Some mode → transition_of mode rest (rest ++ b ∷ []) b ≡ Ends → IsSpelling false (rest ++ b ∷ []) from
 ending mode rest b from e t = turn_gives mode rest b Ends e t from
 
 pub ends : (bytes : List ℕ) (toks : List Token) (mode : Mode) (rest : List ℕ) (b : ℕ) (tok : Token) → Stands bytes toks mode rest
@@ -125,7 +125,7 @@ ends bytes toks mode rest b tok s t is other place = record {
 }
 
 -- a text that ends before a byte
-pub cutting : (mode : Mode) (rest : List ℕ) (b from : ℕ) → mode_of rest ≡ Some mode → turn_of mode rest (rest ++ b ∷ []) b ≡ Cuts → (b ≡ 60) × IsSpelling true rest from
+pub cutting : (mode : Mode) (rest : List ℕ) (b from : ℕ) → mode_of rest ≡ Some mode → transition_of mode rest (rest ++ b ∷ []) b ≡ Cuts → (b ≡ 60) × IsSpelling true rest from
 cutting mode rest b from e t = let g : (b ≡ 60) × ((from : ℕ) → IsSpelling true rest from) = turn_gives mode rest b Cuts e t in (g.0, g.1 from)
 
 spelled_no_tag : (more : List ℕ) (b : ℕ) → begins_tag (spelling_of b ++ more) ≡ false
@@ -159,18 +159,18 @@ cuts bytes toks mode rest b tok s is60 t is text place =
 -- Another place for a token.
 record IsMoved (place : ℕ) (tok : Token) : Type 0 where
   to : Token
-  is_tok : IsToken tok → IsToken to
+  is_token : IsToken tok → IsToken to
   spelled : spelling to ≡ spelling tok
   text : is_text to ≡ is_text tok
   place_is : place_of to ≡ place
 
 move_to : (place : ℕ) (tok : Token) → IsMoved place tok
-move_to place (toks.Start name attributes from) = record { to = toks.Start name attributes place; is_tok = λ h. h; spelled = refl; text = refl; place_is = refl }
-move_to place (toks.End name from) = record { to = toks.End name place; is_tok = λ h. h; spelled = refl; text = refl; place_is = refl }
-move_to place (toks.Void name attributes from) = record { to = toks.Void name attributes place; is_tok = λ h. h; spelled = refl; text = refl; place_is = refl }
-move_to place (toks.Text text from) = record { to = toks.Text text place; is_tok = λ h. h; spelled = refl; text = refl; place_is = refl }
-move_to place (toks.Comment which from) = record { to = toks.Comment which place; is_tok = λ h. h; spelled = refl; text = refl; place_is = refl }
-move_to place (toks.Script body from) = record { to = toks.Script body place; is_tok = λ h. h; spelled = refl; text = refl; place_is = refl }
+move_to place (toks.Start name attributes from) = record { to = toks.Start name attributes place; is_token = λ h. h; spelled = refl; text = refl; place_is = refl }
+move_to place (toks.End name from) = record { to = toks.End name place; is_token = λ h. h; spelled = refl; text = refl; place_is = refl }
+move_to place (toks.Void name attributes from) = record { to = toks.Void name attributes place; is_token = λ h. h; spelled = refl; text = refl; place_is = refl }
+move_to place (toks.Text text from) = record { to = toks.Text text place; is_token = λ h. h; spelled = refl; text = refl; place_is = refl }
+move_to place (toks.Comment which from) = record { to = toks.Comment which place; is_token = λ h. h; spelled = refl; text = refl; place_is = refl }
+move_to place (toks.Script body from) = record { to = toks.Script body place; is_token = λ h. h; spelled = refl; text = refl; place_is = refl }
 
 tag_stays : (rest more : List ℕ) → begins_tag rest ≡ true → begins_tag (rest ++ more) ≡ true
 tag_stays [] more h = absurd (none_true h)
@@ -194,13 +194,13 @@ splits_alive bytes toks rest s =
       toks ++ m.to ∷ [],
       record {
         spelled = ap (λ x. x ++ g.0) s.whole ∙ (append_assoc (spellings toks) rest g.0 ∙ (ap (λ x. spellings toks ++ x) (g.3 ∙ sym m.spelled) ∙ sym (spellings_push toks m.to)));
-        tokens = tokens_push toks m.to 0 false s.tokens (m.is_tok g.2) (m.place_is ∙ omega arith) fits;
+        tokens = tokens_push toks m.to 0 false s.tokens (m.is_token g.2) (m.place_is ∙ omega arith) fits;
       },
     ) in
     ⊎_elim none some s.begun
 
 -- A byte that the reader refuses can never follow.
-pub dead : (bytes : List ℕ) (toks : List Token) (mode : Mode) (rest : List ℕ) (b : ℕ) (kind : ReadKind) → Stands bytes toks mode rest → turn_of mode rest (rest ++ b ∷ []) b ≡ Fails kind
+pub dead : (bytes : List ℕ) (toks : List Token) (mode : Mode) (rest : List ℕ) (b : ℕ) (kind : ReadKind) → Stands bytes toks mode rest → transition_of mode rest (rest ++ b ∷ []) b ≡ Fails kind
     → ¬ IsAlive (bytes ++ b ∷ [])
 unfolding mode_of
 dead bytes toks mode rest b kind s t a =
@@ -212,7 +212,7 @@ dead bytes toks mode rest b kind s t a =
     none_true (sym refused ∙ last)
 
 pub first_dead : (bytes : List ℕ) (toks : List Token) (mode : Mode) (rest : List ℕ) (b : ℕ) (more : List ℕ) (kind : ReadKind) → Stands bytes toks mode rest
-    → turn_of mode rest (rest ++ b ∷ []) b ≡ Fails kind → IsFirstDead (bytes ++ b ∷ more) (length bytes)
+    → transition_of mode rest (rest ++ b ∷ []) b ≡ Fails kind → IsFirstDead (bytes ++ b ∷ more) (length bytes)
 first_dead bytes toks mode rest b more kind s t =
     let front : take (length bytes) (bytes ++ b ∷ more) ≡ bytes = take_at bytes (b ∷ more) (length bytes) refl in
     let longer : take (length bytes + 1) (bytes ++ b ∷ more) ≡ bytes ++ b ∷ [] =

@@ -12,12 +12,12 @@ use Rattle.html_read.specs.declared.place.Place.TheVariants.{Whole, Entity}
 use Rattle.html_read.specs.declared.place.RunFault.{RunFault}
 use Rattle.html_read.specs.declared.machine.Mode.{Mode}
 use Rattle.html_read.specs.declared.machine.Mode.TheVariants.{Text, Name, EndName, Value}
-use Rattle.html_read.specs.declared.machine.Turn.{Turn}
-use Rattle.html_read.specs.declared.machine.Turn.TheVariants.{Goes, Ends, Cuts, Fails}
-use Rattle.html_read.specs.Machine.{is_word, begins_word, tag_words, start_words, tag_flag, start_after, entity_after, place_after, text_turn, value_turn, after_name, end_flag_turn, turn_of, go_on, mode_after}
-use Rattle.html_read.proofs.WordFronts.{none_true, begins_from}
-use Rattle.html_read.proofs.Chars.{place_through, place_append, on_place, Path, path_place, char_path, ok_same, err_ok}
-use Rattle.html_read.proofs.Runs.{AreHigh, high_escaped, escaped_append}
+use Rattle.html_read.specs.declared.machine.Transition.{Transition}
+use Rattle.html_read.specs.declared.machine.Transition.TheVariants.{Goes, Ends, Cuts, Fails}
+use Rattle.html_read.specs.Machine.{is_word, begins_word, tag_words, start_words, tag_flag, start_after, entity_after, place_after, text_transition, value_transition, after_name, end_flag_transition, transition_of, go_on, mode_after}
+use Rattle.html_read.proofs.WordLemmas.{none_true, begins_from}
+use Rattle.html_read.proofs.PlaceAfterLemmas.{place_through, place_append, on_place, Path, path_place, char_path, ok_same, err_ok}
+use Rattle.html_read.proofs.HasRunLemmas.{AreHigh, high_escaped, escaped_append}
 
 -- Each of the five replacements, from after its `&` on.
 abbrev entity_path : List ℕ → List ℕ → Bool
@@ -93,21 +93,21 @@ none_some n e = cc
 pub mode_append : (mode : Mode) (seen xs ys : List ℕ) (next : Mode) → mode_after mode seen xs ≡ Some next → mode_after mode seen (xs ++ ys) ≡ mode_after next (seen ++ xs) ys
 mode_append mode seen [] ys next e = (λ i. mode_after (some_same mode next e i) (sym (append-nil seen) i) ys)
 mode_append mode seen (b ∷ xs) ys next e =
-    let go : (t : Turn) → go_on t (λ m. mode_after m (seen ++ b ∷ []) xs) ≡ Some next → go_on t (λ m. mode_after m (seen ++ b ∷ []) (xs ++ ys)) ≡ mode_after next (seen ++ b ∷ xs) ys = λ t.
+    let go : (t : Transition) → go_on t (λ m. mode_after m (seen ++ b ∷ []) xs) ≡ Some next → go_on t (λ m. mode_after m (seen ++ b ∷ []) (xs ++ ys)) ≡ mode_after next (seen ++ b ∷ xs) ys = λ t.
     elim t as (λ t. go_on t (λ m. mode_after m (seen ++ b ∷ []) xs) ≡ Some next → go_on t (λ m. mode_after m (seen ++ b ∷ []) (xs ++ ys)) ≡ mode_after next (seen ++ b ∷ xs) ys) [
       | Goes m ↦ λ h. mode_append m (seen ++ b ∷ []) xs ys next h ∙ ap (λ s. mode_after next s ys) (append_assoc seen (b ∷ []) xs)
       | Ends ↦ λ h. absurd (none_some next h)
       | Cuts ↦ λ h. absurd (none_some next h)
       | Fails k ↦ λ h. absurd (none_some next h)
     ] in
-    go (turn_of mode seen (seen ++ b ∷ []) b) e
+    go (transition_of mode seen (seen ++ b ∷ []) b) e
 
 pub text_mode : (p q : Place) (seen bs : List ℕ) → place_through p seen bs ≡ Ok q → mode_after (Text p) seen bs ≡ Some (Text q)
 text_mode p q seen [] e = ap (λ r. Some (Text r)) (ok_same p q e)
 text_mode p q seen (b ∷ bs) e =
     let go : (r : Result Place RunFault) → on_place r (λ s. place_through s (seen ++ b ∷ []) bs) ≡ Ok q
-    → go_on (text_turn (length (seen ++ b ∷ [])) b r) (λ m. mode_after m (seen ++ b ∷ []) bs) ≡ Some (Text q) = λ r.
-    elim r as (λ r. on_place r (λ s. place_through s (seen ++ b ∷ []) bs) ≡ Ok q → go_on (text_turn (length (seen ++ b ∷ [])) b r) (λ m. mode_after m (seen ++ b ∷ []) bs) ≡ Some (Text q))
+    → go_on (text_transition (length (seen ++ b ∷ [])) b r) (λ m. mode_after m (seen ++ b ∷ []) bs) ≡ Some (Text q) = λ r.
+    elim r as (λ r. on_place r (λ s. place_through s (seen ++ b ∷ []) bs) ≡ Ok q → go_on (text_transition (length (seen ++ b ∷ [])) b r) (λ m. mode_after m (seen ++ b ∷ []) bs) ≡ Some (Text q))
     [ Ok s ↦ λ h. text_mode s q (seen ++ b ∷ []) bs h | Err f ↦ λ h. absurd (err_ok f q h) ] in
     go (place_after p (seen ++ b ∷ []) b) e
 
@@ -115,14 +115,14 @@ pub value_mode : (v : Bool) (p q : Place) (seen bs : List ℕ) → place_through
 value_mode v p q seen [] e = ap (λ r. Some (Value v r)) (ok_same p q e)
 value_mode v p q seen (b ∷ bs) e =
     let go : (r : Result Place RunFault) → on_place r (λ s. place_through s (seen ++ b ∷ []) bs) ≡ Ok q
-    → go_on (value_turn v b r) (λ m. mode_after m (seen ++ b ∷ []) bs) ≡ Some (Value v q) = λ r.
-    elim r as (λ r. on_place r (λ s. place_through s (seen ++ b ∷ []) bs) ≡ Ok q → go_on (value_turn v b r) (λ m. mode_after m (seen ++ b ∷ []) bs) ≡ Some (Value v q))
+    → go_on (value_transition v b r) (λ m. mode_after m (seen ++ b ∷ []) bs) ≡ Some (Value v q) = λ r.
+    elim r as (λ r. on_place r (λ s. place_through s (seen ++ b ∷ []) bs) ≡ Ok q → go_on (value_transition v b r) (λ m. mode_after m (seen ++ b ∷ []) bs) ≡ Some (Value v q))
     [ Ok s ↦ λ h. value_mode v s q (seen ++ b ∷ []) bs h | Err f ↦ λ h. absurd (err_ok f q h) ] in
     go (place_after p (seen ++ b ∷ []) b) e
 
 -- Within a name, a comment.
-abbrev pub turn_at : Mode → List ℕ → ℕ → Turn
-turn_at mode seen b = turn_of mode seen (seen ++ b ∷ []) b
+abbrev pub turn_at : Mode → List ℕ → ℕ → Transition
+turn_at mode seen b = transition_of mode seen (seen ++ b ∷ []) b
 
 pub name_on : (name more : List ℕ) → is_word start_words (name ++ more) ≡ true → mode_after Name (60 ∷ name) more ≡ Some Name
 name_on name [] h = refl
@@ -136,4 +136,4 @@ end_name_on name [] h = refl
 end_name_on name (b ∷ more) h =
     let shifted : is_word tag_words ((name ++ b ∷ []) ++ more) ≡ true = ap (is_word tag_words) (append_assoc name (b ∷ []) more) ∙ h in
     let begins : begins_word tag_words (name ++ b ∷ []) ≡ true = begins_from tag_words (name ++ b ∷ []) more shifted in
-    ap (λ t. go_on t (λ m. mode_after m (60 ∷ 47 ∷ name ++ b ∷ []) more)) (cond-true (begins_word tag_words (name ++ b ∷ [])) (Goes EndName) (end_flag_turn (tag_flag name) b) begins) ∙ end_name_on (name ++ b ∷ []) more shifted
+    ap (λ t. go_on t (λ m. mode_after m (60 ∷ 47 ∷ name ++ b ∷ []) more)) (cond-true (begins_word tag_words (name ++ b ∷ [])) (Goes EndName) (end_flag_transition (tag_flag name) b) begins) ∙ end_name_on (name ++ b ∷ []) more shifted

@@ -3,7 +3,7 @@ use Rattle.std.proofs.Common.{◌≡◌, ℕ, ◌+◌, ◌<◌, ◌≤◌, true,
 use Rattle.std.specs.List.{list_all}
 use Rattle.std.specs.Str.{IsUtf8}
 use Rattle.std.proofs.lemmas.Bool.{cond_both, ltb-true, ltb-false, leb-true, eqb-true, eqb-false, and_parts, cases_lt}
-use Rattle.html_read.proofs.Encode.{two_bytes, three_low, three_high, four_bytes}
+use Rattle.html_read.proofs.EncodeUtf8Lemmas.{two_bytes, three_low, three_high, four_bytes}
 use Rattle.html_read.specs.declared.place.Tail.{Tail}
 use Rattle.html_read.specs.declared.place.Tail.TheVariants.{One, Two, Three, AfterE0, AfterEd, AfterF0, AfterF4}
 use Rattle.html_read.specs.declared.place.Place.{Place}

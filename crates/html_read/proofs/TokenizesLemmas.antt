@@ -13,21 +13,22 @@ use Rattle.html_read.specs.declared.token.Token.{Token}
 use Rattle.html_read.specs.declared.token.Token.TheVariants.{Start, End, Void, Text, Comment, Script}
 use Rattle.html_read.specs.declared.machine.Mode.{Mode}
 use Rattle.html_read.specs.declared.machine.Mode.TheVariants as modes
-use Rattle.html_read.specs.declared.machine.Turn.{Turn}
-use Rattle.html_read.specs.declared.machine.Turn.TheVariants.{Goes, Ends, Cuts, Fails}
-use Rattle.html_read.specs.Names.{continues_attribute_name, IsTagName}
+use Rattle.html_read.specs.declared.machine.Transition.{Transition}
+use Rattle.html_read.specs.declared.machine.Transition.TheVariants.{Goes, Ends, Cuts, Fails}
+use Rattle.html_names.specs.Names.{is_name_byte}
+use Rattle.html_read.specs.Names.{IsTagName}
 use Rattle.html_names.specs.Printing.{value_spelling, attribute_spelling, attributes_spelling, tag_prefix}
 use Rattle.html_names.specs.Comments.{comment_data}
 use Rattle.html_read.specs.Tokens.{IsAttribute, AreAttributes, script_end, spelling, spellings, IsToken, AreTokensFrom, MayFollow, AreTokens, Tokenizes, place_of, is_text}
 use Rattle.html_read.specs.Faults.{begins_tag, ends_in_text, IsBegun, Splits}
-use Rattle.html_read.specs.Building.{front_len, IsTokenOf, EndsAttribute, EndsTag, IsTagOf}
+use Rattle.html_read.specs.Building.{prefix_len, IsTokenOf, EndsAttribute, EndsTag, IsTagOf}
 use Rattle.html_read.specs.Machine.{go_on, mode_after}
-use Rattle.html_read.proofs.WordFronts.{none_true, tag_of_flag, flag_of_void}
-use Rattle.html_read.proofs.Running.{turn_at}
-use Rattle.html_read.proofs.Passing.{Passes, tok_passes}
-use Rattle.html_read.proofs.Standing.{escaped_no_tag}
-use Rattle.html_read.proofs.Built.{Cut, tag_cut, attribute_cut, value_cut, front_len_at, start_ends, void_ends, text_branch, end_branch, comment_branch, script_branch, tag_branch, rest_ends, prefix_is, tag_at, no_script_tag}
-use Rattle.html_read.proofs.Quotes.{all_append}
+use Rattle.html_read.proofs.WordLemmas.{none_true, tag_of_flag, flag_of_void}
+use Rattle.html_read.proofs.ModeAfterLemmas.{turn_at}
+use Rattle.html_read.proofs.PassesLemmas.{Passes, tok_passes}
+use Rattle.html_read.proofs.StandsLemmas.{escaped_no_tag}
+use Rattle.html_read.proofs.BuildingLemmas.{Cut, tag_cut, attribute_cut, value_cut, front_len_at, start_ends, void_ends, text_branch, end_branch, comment_branch, script_branch, tag_branch, rest_ends, prefix_is, tag_at, no_script_tag}
+use Rattle.html_read.proofs.QuotedLemmas.{all_append}
 
 -- One attribute, and what follows it.
 record Same (a b : Attr) (more others : List ℕ) : Type 0 where
@@ -52,7 +53,7 @@ values_same (Some x) (Some y) more others h k e =
     let inner : escape_of x ++ 34 ∷ more ≡ escape_of y ++ 34 ∷ others =
     sym (append_assoc (escape_of x) (34 ∷ []) more) ∙ (tails_same 34 34 _ _ (tails_same 61 61 _ _ e) ∙ append_assoc (escape_of y) (34 ∷ []) others) in
     let quoted : List ℕ = escape_of x ++ 34 ∷ more in
-    let n : ℕ = front_len (λ b. not (b == 34)) quoted in
+    let n : ℕ = prefix_len (λ b. not (b == 34)) quoted in
     let here : (take n quoted ≡ escape_of x) × (drop n quoted ≡ 34 ∷ more) = value_cut x more quoted n refl refl in
     let there : (take n quoted ≡ escape_of y) × (drop n quoted ≡ 34 ∷ others) = value_cut y others quoted n inner refl in
     (ap (λ t. Some t) (escaped_injective x y (sym here.0 ∙ there.0)), tails_same 34 34 more others (sym here.1 ∙ there.1))
@@ -60,7 +61,7 @@ values_same (Some x) (Some y) more others h k e =
 attribute_same : (a b : Attr) (more others : List ℕ) → IsAttribute a → IsAttribute b → EndsAttribute more → EndsAttribute others → attribute_spelling a ++ more ≡ attribute_spelling b ++ others → Same a b more others
 attribute_same a b more others h k m o e =
     let bytes : List ℕ = attribute_spelling a ++ more in
-    let n : ℕ = front_len continues_attribute_name (drop 1 bytes) in
+    let n : ℕ = prefix_len is_name_byte (drop 1 bytes) in
     let here : Cut (drop 1 bytes) n a.name (value_spelling a.value ++ more) = attribute_cut a.name a.value more bytes (drop 1 bytes) n h.0 m refl refl refl in
     let there : Cut (drop 1 bytes) n b.name (value_spelling b.value ++ others) = attribute_cut b.name b.value others bytes (drop 1 bytes) n k.0 o e refl refl in
     let names : a.name ≡ b.name = sym here.front ∙ there.front in
@@ -87,7 +88,7 @@ tag_same : (name other : List ℕ) (xs ys : List Attr) (tail end : List ℕ) →
     → tag_prefix name xs ++ tail ≡ tag_prefix other ys ++ end → SameTag name other xs ys tail end
 tag_same name other xs ys tail end t u h k m o e =
     let bytes : List ℕ = tag_prefix name xs ++ tail in
-    let n : ℕ = front_len continues_attribute_name (drop 1 bytes) in
+    let n : ℕ = prefix_len is_name_byte (drop 1 bytes) in
     let here : Cut (drop 1 bytes) n name (attributes_spelling xs ++ tail) = tag_cut name xs tail bytes (drop 1 bytes) n t m refl refl refl in
     let there : Cut (drop 1 bytes) n other (attributes_spelling ys ++ end) = tag_cut other ys end bytes (drop 1 bytes) n u o e refl refl in
     let rest : (xs ≡ ys) × (tail ≡ end) = attributes_same xs ys tail end h k m o (sym here.back ∙ there.back) in
@@ -170,7 +171,7 @@ pub token_same : (a b : Token) → IsToken a → IsToken b → spelling a ≡ sp
 token_same a b h k e p = sym (some_same b a (itself b k a h (sym e) p))
 
 -- How long a token is that is no text: up to the byte that ends it.
-abbrev len_on : Turn → (Mode → ℕ) → ℕ
+abbrev len_on : Transition → (Mode → ℕ) → ℕ
 len_on (Goes mode) next = suc (next mode)
 len_on Ends next = 1
 len_on Cuts next = 0
@@ -189,7 +190,7 @@ none_mode n e = cc
 ends_through : (mode next : Mode) (seen xs ys : List ℕ) → mode_after mode seen xs ≡ Some next → ends_len mode seen (xs ++ ys) ≡ length xs + ends_len next (seen ++ xs) ys
 ends_through mode next seen [] ys e = (λ i. ends_len (some_mode mode next e i) (sym (append-nil seen) i) ys) ∙ omega arith
 ends_through mode next seen (b ∷ xs) ys e =
-    let go : (t : Turn) → go_on t (λ m. mode_after m (seen ++ b ∷ []) xs) ≡ Some next → len_on t (λ m. ends_len m (seen ++ b ∷ []) (xs ++ ys)) ≡ length (b ∷ xs) + ends_len next (seen ++ b ∷ xs) ys = λ t.
+    let go : (t : Transition) → go_on t (λ m. mode_after m (seen ++ b ∷ []) xs) ≡ Some next → len_on t (λ m. ends_len m (seen ++ b ∷ []) (xs ++ ys)) ≡ length (b ∷ xs) + ends_len next (seen ++ b ∷ xs) ys = λ t.
     elim t as (λ t. go_on t (λ m. mode_after m (seen ++ b ∷ []) xs) ≡ Some next → len_on t (λ m. ends_len m (seen ++ b ∷ []) (xs ++ ys)) ≡ length (b ∷ xs) + ends_len next (seen ++ b ∷ xs) ys) [
       | Goes m ↦ λ h. ap suc (ends_through m next (seen ++ b ∷ []) xs ys h ∙ ap (λ s. length xs + ends_len next s ys) (append_assoc seen (b ∷ []) xs)) ∙ omega arith
       | Ends ↦ λ h. absurd (none_mode next h)
@@ -224,15 +225,15 @@ abbrev Stops : List ℕ → Type 0
 Stops [] = Unit {0}
 Stops (b ∷ bs) = b ≡ 60
 
-run_len : (xs rest : List ℕ) → list_all no_tag xs ≡ true → Stops rest → front_len no_tag (xs ++ rest) ≡ length xs
-run_len xs [] h s = ap (front_len no_tag) (append-nil xs) ∙ all_len xs h
+run_len : (xs rest : List ℕ) → list_all no_tag xs ≡ true → Stops rest → prefix_len no_tag (xs ++ rest) ≡ length xs
+run_len xs [] h s = ap (prefix_len no_tag) (append-nil xs) ∙ all_len xs h
   where
-    all_len : (ys : List ℕ) → list_all no_tag ys ≡ true → front_len no_tag ys ≡ length ys
+    all_len : (ys : List ℕ) → list_all no_tag ys ≡ true → prefix_len no_tag ys ≡ length ys
     all_len [] k = refl
     all_len (y ∷ ys) k = let g : (no_tag y ≡ true) × (list_all no_tag ys ≡ true) = and_parts _ _ k in cond-true (no_tag y) _ 0 g.0 ∙ ap suc (all_len ys g.1)
 run_len xs (b ∷ bs) h s = front_len_at no_tag xs b bs h (ap no_tag s)
 
-text_len : (tok : Token) (rest : List ℕ) → is_text tok ≡ true → Stops rest → length (spelling tok) ≡ front_len no_tag (spelling tok ++ rest)
+text_len : (tok : Token) (rest : List ℕ) → is_text tok ≡ true → Stops rest → length (spelling tok) ≡ prefix_len no_tag (spelling tok ++ rest)
 text_len (Start name attributes from) rest t s = absurd (none_true t)
 text_len (End name from) rest t s = absurd (none_true t)
 text_len (Void name attributes from) rest t s = absurd (none_true t)
@@ -276,7 +277,7 @@ text_begins (Script body from) rest h t s = absurd (none_true t)
 first_same : (a b : Token) (xs ys : List ℕ) → IsToken a → IsToken b → (is_text a ≡ true → Stops xs) → (is_text b ≡ true → Stops ys) → spelling a ++ xs ≡ spelling b ++ ys → spelling a ≡ spelling b
 first_same a b xs ys h k stop halt e =
     let tt_case : is_text a ≡ true → is_text b ≡ true → spelling a ≡ spelling b = λ s t.
-    same_front (spelling a) (spelling b) xs ys (text_len a xs s (stop s) ∙ (ap (front_len no_tag) e ∙ sym (text_len b ys t (halt t)))) e in
+    same_front (spelling a) (spelling b) xs ys (text_len a xs s (stop s) ∙ (ap (prefix_len no_tag) e ∙ sym (text_len b ys t (halt t)))) e in
     let tf_case : is_text a ≡ true → is_text b ≡ false → spelling a ≡ spelling b = λ s t.
     absurd (none_true (sym (text_begins a xs h s (stop s)) ∙ (ap begins_tag e ∙ other_begins b ys k t))) in
     let ft_case : is_text a ≡ false → is_text b ≡ true → spelling a ≡ spelling b = λ s t.

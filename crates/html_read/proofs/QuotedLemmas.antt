@@ -10,13 +10,14 @@ use Rattle.html_names.specs.Escape.{spelling_of, escape_of, entities, is_open_en
 use Rattle.html_names.proofs.EscapeLemmas.{each_byte, plain_spelling}
 use Rattle.html_read.specs.declared.place.Place.{Place}
 use Rattle.html_read.specs.declared.place.Place.TheVariants.{Whole, Char, Entity}
-use Rattle.html_read.specs.Names.{is_letter, continues_attribute_name, IsTagName, IsAttributeName}
+use Rattle.html_names.specs.Names.{is_letter, is_name_byte}
+use Rattle.html_read.specs.Names.{IsTagName, IsAttributeName}
 use Rattle.html_names.specs.Printing.{value_spelling, attribute_spelling, attributes_spelling, tag_prefix}
 use Rattle.html_read.specs.Tokens.{IsAttribute, AreAttributes}
 use Rattle.html_read.specs.Faults.{IsOpenValue}
 use Rattle.html_read.specs.Machine.{is_word}
-use Rattle.html_read.proofs.WordFronts.{none_true, begins_gives, word_passes, is_name_byte, is_name_word, tag_name_bytes}
-use Rattle.html_read.proofs.Runs.{AreHigh, IsOpenEntity, HasRun}
+use Rattle.html_read.proofs.WordLemmas.{none_true, begins_gives, word_passes, is_word_byte, is_name_word, tag_name_bytes}
+use Rattle.html_read.proofs.HasRunLemmas.{AreHigh, IsOpenEntity, HasRun}
 
 abbrev pub no_quote : ℕ → Bool
 no_quote b = not (b == 34)
@@ -40,12 +41,12 @@ not_quote : (b : ℕ) (p : ℕ → Bool) → p 34 ≡ false → p b ≡ true →
 not_quote b p f h = ⊎_elim (λ e. absurd (none_true (sym f ∙ (ap p (sym e) ∙ h)))) (λ n. ap not (ne_eqb b 34 n)) (cases_eq b 34)
 
 pub name_no_quote : (name : List ℕ) → is_name_word name ≡ true → HasNoQuote name
-name_no_quote name h = all_weaken is_name_byte no_quote (λ b. not_quote b is_name_byte refl) name h
+name_no_quote name h = all_weaken is_word_byte no_quote (λ b. not_quote b is_word_byte refl) name h
 
 pub attribute_no_quote : (name : List ℕ) → IsAttributeName name → HasNoQuote name
 attribute_no_quote [] h = refl
 attribute_no_quote (b ∷ bs) h =
-    and_from _ _ (not_quote b is_letter refl h.0) (all_weaken continues_attribute_name no_quote (λ x. not_quote x continues_attribute_name refl) bs h.1)
+    and_from _ _ (not_quote b is_letter refl h.0) (all_weaken is_name_byte no_quote (λ x. not_quote x is_name_byte refl) bs h.1)
 
 spelled_no_quote : (b : ℕ) → HasNoQuote (spelling_of b)
 spelled_no_quote = each_byte (λ b. HasNoQuote (spelling_of b)) refl refl refl refl refl

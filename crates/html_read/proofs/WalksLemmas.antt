@@ -7,17 +7,17 @@ use Rattle.html_read.specs.declared.fault.ReadKind.{ReadKind}
 use Rattle.html_read.specs.declared.place.Place.TheVariants.{Whole}
 use Rattle.html_read.specs.declared.machine.Mode.{Mode}
 use Rattle.html_read.specs.declared.machine.Mode.TheVariants.{Text, Name}
-use Rattle.html_read.specs.declared.machine.Turn.{Turn}
-use Rattle.html_read.specs.declared.machine.Turn.TheVariants.{Goes, Ends, Cuts, Fails}
+use Rattle.html_read.specs.declared.machine.Transition.{Transition}
+use Rattle.html_read.specs.declared.machine.Transition.TheVariants.{Goes, Ends, Cuts, Fails}
 use Rattle.html_read.specs.declared.walk.At.{At}
 use Rattle.html_read.specs.Tokens.{spelling, spellings}
 use Rattle.html_read.specs.Faults.{Splits, HasFault, HasKind}
-use Rattle.html_read.specs.Machine.{turn_of, mode_of}
+use Rattle.html_read.specs.Machine.{transition_of, mode_of}
 use Rattle.html_read.specs.Building.{IsTokenOf}
 use Rattle.html_read.specs.Scanning.{IsStepBy, IsStep, Finds}
-use Rattle.html_read.proofs.Fits.{IsSpelling}
-use Rattle.html_read.proofs.FaultKinds.{fails_kind}
-use Rattle.html_read.proofs.Standing.{Stands, stands_of, splits_of, mode_fits, mode_starts, mode_tag, mode_more, goes, ending, ends, cutting, cuts, first_dead, spellings_push}
+use Rattle.html_read.proofs.FitsLemmas.{IsSpelling}
+use Rattle.html_read.proofs.HasKindLemmas.{fails_kind}
+use Rattle.html_read.proofs.StandsLemmas.{Stands, stands_of, splits_of, mode_fits, mode_starts, mode_tag, mode_more, goes, ending, ends, cutting, cuts, first_dead, spellings_push}
 
 -- Whatever tokens were given before the bytes.
 abbrev pub StandsAfter : List ℕ → ℕ → Mode → ℕ → List Token → ℕ → Mode → ℕ → Type 0
@@ -62,7 +62,7 @@ StepGives bytes start mode place tokens from now i (Err kind) =
     → HasFault (spellings toks ++ bytes) (toks ++ tokens) (place + i) kind
 
 goes_step : (bytes : List ℕ) (start : ℕ) (mode : Mode) (place : ℕ) (tokens : List Token) (from : ℕ) (now next : Mode) (i : ℕ) → Walks bytes start mode place tokens from now i → i < length bytes
-    → turn_of now (drop from (take i bytes)) (drop from (take i bytes) ++ slice_index bytes i ∷ []) (slice_index bytes i) ≡ Goes next → Walks bytes start mode place tokens from next (i + 1)
+    → transition_of now (drop from (take i bytes)) (drop from (take i bytes) ++ slice_index bytes i ∷ []) (slice_index bytes i) ≡ Goes next → Walks bytes start mode place tokens from next (i + 1)
 goes_step bytes start mode place tokens from now next i w m t =
     let rest : List ℕ = drop from (take i bytes) in
     let b : ℕ = slice_index bytes i in
@@ -87,7 +87,7 @@ pushed_length toks tokens tok n m bytes e is l =
     ap (λ t. length (spellings t)) (sym (append_assoc toks tokens (tok ∷ []))) ∙ (ap length (spellings_push (toks ++ tokens) tok) ∙ omega (arith, length-append (spellings (toks ++ tokens)) (spelling tok), ap length is))
 
 ends_step : (bytes : List ℕ) (start : ℕ) (mode : Mode) (place : ℕ) (tokens : List Token) (from : ℕ) (now : Mode) (i : ℕ) (found : Option Token) → Walks bytes start mode place tokens from now i → i < length bytes
-    → turn_of now (drop from (take i bytes)) (drop from (take i bytes) ++ slice_index bytes i ∷ []) (slice_index bytes i) ≡ Ends
+    → transition_of now (drop from (take i bytes)) (drop from (take i bytes) ++ slice_index bytes i ∷ []) (slice_index bytes i) ≡ Ends
     → IsTokenOf (drop from (take i bytes) ++ slice_index bytes i ∷ []) (place + from) found → Walks bytes start mode place (tokens ++ option_to_list found) (i + 1) (Text Whole) (i + 1)
 ends_step bytes start mode place tokens from now i found w m t is =
     let rest : List ℕ = drop from (take i bytes) in
@@ -101,10 +101,10 @@ ends_step bytes start mode place tokens from now i found w m t is =
       stands = λ e toks s l.
           let h : Stands (spellings toks ++ take i bytes) (toks ++ tokens) now rest × (length (spellings (toks ++ tokens)) ≡ place + from) = w.stands e toks s l in
           let k : IsSpelling false (rest ++ b ∷ []) (place + from) = ending now rest b (place + from) (w.mode_is e) t in
-          let f : found ≡ Some k.tok = is k.tok k.is_tok k.spelled k.place_is in
+          let f : found ≡ Some k.tok = is k.tok k.is_token k.spelled k.place_is in
           let stands : Stands (spellings toks ++ take (i + 1) bytes) (toks ++ tokens ++ k.tok ∷ []) (Text Whole) [] =
           subst (λ x. Stands x (toks ++ tokens ++ k.tok ∷ []) (Text Whole) []) (whole_more toks bytes i m)
-          (ends (spellings toks ++ take i bytes) (toks ++ tokens) now rest b k.tok h.0 k.is_tok k.spelled k.text_is (k.place_is ∙ sym h.1)) in
+          (ends (spellings toks ++ take i bytes) (toks ++ tokens) now rest b k.tok h.0 k.is_token k.spelled k.text_is (k.place_is ∙ sym h.1)) in
           let all : toks ++ tokens ++ k.tok ∷ [] ≡ toks ++ (tokens ++ option_to_list found) = append_assoc toks tokens (k.tok ∷ []) ∙ ap (λ x. toks ++ x) (sym (one_more tokens k.tok found f)) in
           let size : length (rest ++ b ∷ []) ≡ i + 1 - from = ap length (sym (more_is bytes from i begun m)) ∙ omega (arith, length-drop from (take (i + 1) bytes)) in (
             subst (λ r. Stands (spellings toks ++ take (i + 1) bytes) (toks ++ (tokens ++ option_to_list found)) (Text Whole) r) none (subst (λ t. Stands (spellings toks ++ take (i + 1) bytes) t (Text Whole) []) all stands),
@@ -113,7 +113,7 @@ ends_step bytes start mode place tokens from now i found w m t is =
     }
 
 cuts_step : (bytes : List ℕ) (start : ℕ) (mode : Mode) (place : ℕ) (tokens : List Token) (from : ℕ) (now : Mode) (i : ℕ) (found : Option Token) → Walks bytes start mode place tokens from now i → i < length bytes
-    → turn_of now (drop from (take i bytes)) (drop from (take i bytes) ++ slice_index bytes i ∷ []) (slice_index bytes i) ≡ Cuts
+    → transition_of now (drop from (take i bytes)) (drop from (take i bytes) ++ slice_index bytes i ∷ []) (slice_index bytes i) ≡ Cuts
     → IsTokenOf (drop from (take i bytes)) (place + from) found → Walks bytes start mode place (tokens ++ option_to_list found) i Name (i + 1)
 cuts_step bytes start mode place tokens from now i found w m t is =
     let rest : List ℕ = drop from (take i bytes) in
@@ -129,10 +129,10 @@ cuts_step bytes start mode place tokens from now i found w m t is =
           let h : Stands (spellings toks ++ take i bytes) (toks ++ tokens) now rest × (length (spellings (toks ++ tokens)) ≡ place + from) = w.stands e toks s l in
           let c : (b ≡ 60) × IsSpelling true rest (place + from) = cutting now rest b (place + from) (w.mode_is e) t in
           let k : IsSpelling true rest (place + from) = c.1 in
-          let f : found ≡ Some k.tok = is k.tok k.is_tok k.spelled k.place_is in
+          let f : found ≡ Some k.tok = is k.tok k.is_token k.spelled k.place_is in
           let stands : Stands (spellings toks ++ take (i + 1) bytes) (toks ++ tokens ++ k.tok ∷ []) Name (b ∷ []) =
           subst (λ x. Stands x (toks ++ tokens ++ k.tok ∷ []) Name (b ∷ [])) (whole_more toks bytes i m)
-          (cuts (spellings toks ++ take i bytes) (toks ++ tokens) now rest b k.tok h.0 c.0 k.is_tok k.spelled k.text_is (k.place_is ∙ sym h.1)) in
+          (cuts (spellings toks ++ take i bytes) (toks ++ tokens) now rest b k.tok h.0 c.0 k.is_token k.spelled k.text_is (k.place_is ∙ sym h.1)) in
           let all : toks ++ tokens ++ k.tok ∷ [] ≡ toks ++ (tokens ++ option_to_list found) = append_assoc toks tokens (k.tok ∷ []) ∙ ap (λ x. toks ++ x) (sym (one_more tokens k.tok found f)) in
           let size : length rest ≡ i - from = omega (arith, length-drop from (take i bytes)) in (
             subst (λ r. Stands (spellings toks ++ take (i + 1) bytes) (toks ++ (tokens ++ option_to_list found)) Name r) last (subst (λ t. Stands (spellings toks ++ take (i + 1) bytes) t Name (b ∷ [])) all stands),
@@ -141,7 +141,7 @@ cuts_step bytes start mode place tokens from now i found w m t is =
     }
 
 fails_step : (bytes : List ℕ) (start : ℕ) (mode : Mode) (place : ℕ) (tokens : List Token) (from : ℕ) (now : Mode) (i : ℕ) (kind : ReadKind) → Walks bytes start mode place tokens from now i → i < length bytes
-    → turn_of now (drop from (take i bytes)) (drop from (take i bytes) ++ slice_index bytes i ∷ []) (slice_index bytes i) ≡ Fails kind → StepGives bytes start mode place tokens from now i (Err kind)
+    → transition_of now (drop from (take i bytes)) (drop from (take i bytes) ++ slice_index bytes i ∷ []) (slice_index bytes i) ≡ Fails kind → StepGives bytes start mode place tokens from now i (Err kind)
 fails_step bytes start mode place tokens from now i kind w m t e toks s l =
     let rest : List ℕ = drop from (take i bytes) in
     let b : ℕ = slice_index bytes i in
@@ -159,8 +159,8 @@ fails_step bytes start mode place tokens from now i kind w m t e toks s l =
       kind_is = subst (λ x. HasKind rest x kind) (sym (get_or_at front b more 0 (length front) refl)) (fails_kind now rest b kind (mode_fits now rest (w.mode_is e)) t);
     }))
 
-step_by : (bytes : List ℕ) (start : ℕ) (mode : Mode) (place : ℕ) (tokens new : List Token) (at : At) (i : ℕ) (result : Result At ReadKind) (t : Turn) → Walks bytes start mode place tokens at.from at.mode i → i < length bytes
-    → turn_of at.mode (drop at.from (take i bytes)) (drop at.from (take i bytes) ++ slice_index bytes i ∷ []) (slice_index bytes i) ≡ t → IsStepBy t tokens bytes at i place new result
+step_by : (bytes : List ℕ) (start : ℕ) (mode : Mode) (place : ℕ) (tokens new : List Token) (at : At) (i : ℕ) (result : Result At ReadKind) (t : Transition) → Walks bytes start mode place tokens at.from at.mode i → i < length bytes
+    → transition_of at.mode (drop at.from (take i bytes)) (drop at.from (take i bytes) ++ slice_index bytes i ∷ []) (slice_index bytes i) ≡ t → IsStepBy t tokens bytes at i place new result
     → StepGives bytes start mode place new at.from at.mode i result
 step_by bytes start mode place tokens new at i result (Goes next) w m t h =
     subst (StepGives bytes start mode place new at.from at.mode i) (sym h.1) (subst (λ x. Walks bytes start mode place x at.from next (i + 1)) (sym h.0) (goes_step bytes start mode place tokens at.from at.mode next i w m t))
@@ -178,8 +178,8 @@ step_gives : (bytes : List ℕ) (start : ℕ) (mode : Mode) (place : ℕ) (token
     → IsStep tokens bytes at i place new result → StepGives bytes start mode place new at.from at.mode i result
 step_gives bytes start mode place tokens new at i result w m h =
     let rest : List ℕ = drop at.from (take i bytes) in
-    let same : turn_of at.mode (slice_range bytes at.from i) (slice_range bytes at.from (i + 1)) (slice_index bytes i) ≡ turn_of at.mode rest (rest ++ slice_index bytes i ∷ []) (slice_index bytes i) =
-    (λ k. turn_of at.mode (seen_is bytes at.from i w.begun k) (token_is bytes at.from i w.begun m k) (slice_index bytes i)) in
+    let same : transition_of at.mode (slice_range bytes at.from i) (slice_range bytes at.from (i + 1)) (slice_index bytes i) ≡ transition_of at.mode rest (rest ++ slice_index bytes i ∷ []) (slice_index bytes i) =
+    (λ k. transition_of at.mode (seen_is bytes at.from i w.begun k) (token_is bytes at.from i w.begun m k) (slice_index bytes i)) in
     step_by bytes start mode place tokens new at i result _ w m (sym same) h
 
 pub walk_on : (bytes : List ℕ) (start : ℕ) (mode : Mode) (place : ℕ) (tokens new : List Token) (at next : At) (i : ℕ) (result : Result At ReadKind) → Walks bytes start mode place tokens at.from at.mode i → i < length bytes

@@ -11,7 +11,7 @@ use Rattle.html_read.specs.declared.place.Place.TheVariants.{Whole, Char, Entity
 use Rattle.html_read.specs.declared.place.RunFault.{RunFault}
 use Rattle.html_read.specs.declared.place.RunFault.TheVariants as faults
 use Rattle.html_read.specs.Machine.{char_start, next_within, tail_after, start_after, place_after}
-use Rattle.html_read.proofs.Encode.{two, three, four}
+use Rattle.html_read.proofs.EncodeUtf8Lemmas.{two, three, four}
 
 abbrev pub char_step : Place → ℕ → Result Place RunFault
 char_step Whole b = char_start b

@@ -7,17 +7,17 @@ use Rattle.html_read.specs.declared.token.Token.TheVariants as toks
 use Rattle.html_read.specs.declared.place.Place.TheVariants.{Whole}
 use Rattle.html_read.specs.declared.machine.Mode.{Mode}
 use Rattle.html_read.specs.declared.machine.Mode.TheVariants.{Text, Name}
-use Rattle.html_read.specs.declared.machine.Turn.{Turn}
-use Rattle.html_read.specs.declared.machine.Turn.TheVariants.{Goes, Ends, Cuts, Fails}
+use Rattle.html_read.specs.declared.machine.Transition.{Transition}
+use Rattle.html_read.specs.declared.machine.Transition.TheVariants.{Goes, Ends, Cuts, Fails}
 use Rattle.html_read.specs.Tokens.{spelling, spellings, IsToken, AreTokensFrom, AreTokens, MayFollow, Tokenizes, is_text}
 use Rattle.html_read.specs.Faults.{IsAlive, begins_tag, ends_in_text}
-use Rattle.html_read.specs.Machine.{turn_of, go_on, mode_after}
-use Rattle.html_read.proofs.WordFronts.{none_true}
-use Rattle.html_read.proofs.Running.{turn_at, text_mode, text_through}
-use Rattle.html_read.proofs.Passing.{Passes, tok_passes}
+use Rattle.html_read.specs.Machine.{transition_of, go_on, mode_after}
+use Rattle.html_read.proofs.WordLemmas.{none_true}
+use Rattle.html_read.proofs.ModeAfterLemmas.{turn_at, text_mode, text_through}
+use Rattle.html_read.proofs.PassesLemmas.{Passes, tok_passes}
 
 -- No byte is refused.
-abbrev pub live_on : Turn → (Mode → Bool) → Bool → Bool → Bool
+abbrev pub live_on : Transition → (Mode → Bool) → Bool → Bool → Bool
 live_on (Goes mode) next ended cut = next mode
 live_on Ends next ended cut = ended
 live_on Cuts next ended cut = cut
@@ -39,14 +39,14 @@ lives_after mode next seen [] ys e = (λ i. lives (some_mode mode next e i) (sym
 lives_after mode next seen (b ∷ xs) ys e =
     let cut : Bool = lives Name (60 ∷ []) (xs ++ ys) in
     let ended : Bool = lives (Text Whole) [] (xs ++ ys) in
-    let go : (t : Turn) → go_on t (λ m. mode_after m (seen ++ b ∷ []) xs) ≡ Some next → live_on t (λ m. lives m (seen ++ b ∷ []) (xs ++ ys)) ended cut ≡ lives next (seen ++ b ∷ xs) ys = λ t.
+    let go : (t : Transition) → go_on t (λ m. mode_after m (seen ++ b ∷ []) xs) ≡ Some next → live_on t (λ m. lives m (seen ++ b ∷ []) (xs ++ ys)) ended cut ≡ lives next (seen ++ b ∷ xs) ys = λ t.
     elim t as (λ t. go_on t (λ m. mode_after m (seen ++ b ∷ []) xs) ≡ Some next → live_on t (λ m. lives m (seen ++ b ∷ []) (xs ++ ys)) ended cut ≡ lives next (seen ++ b ∷ xs) ys) [
       | Goes m ↦ λ h. lives_after m next (seen ++ b ∷ []) xs ys h ∙ ap (λ s. lives next s ys) (append_assoc seen (b ∷ []) xs)
       | Ends ↦ λ h. absurd (none_mode next h)
       | Cuts ↦ λ h. absurd (none_mode next h)
       | Fails k ↦ λ h. absurd (none_mode next h)
     ] in
-    go (turn_of mode seen (seen ++ b ∷ []) b) e
+    go (transition_of mode seen (seen ++ b ∷ []) b) e
 
 cuts_here : (s : ℕ) (seen : List ℕ) → turn_at (Text Whole) (s ∷ seen) 60 ≡ Cuts
 cuts_here s seen = cond-false _ _ _ (ne_eqb (length ((s ∷ seen) ++ 60 ∷ [])) 1 (λ e. omega (arith, length-append seen (60 ∷ []))))
@@ -112,7 +112,7 @@ lives_page bytes toks t =
 pub lives_front : (mode : Mode) (seen xs ys : List ℕ) → lives mode seen (xs ++ ys) ≡ true → lives mode seen xs ≡ true
 lives_front mode seen [] ys h = refl
 lives_front mode seen (b ∷ xs) ys h =
-    let go : (t : Turn) → live_on t (λ m. lives m (seen ++ b ∷ []) (xs ++ ys)) (lives (Text Whole) [] (xs ++ ys)) (lives Name (60 ∷ []) (xs ++ ys)) ≡ true
+    let go : (t : Transition) → live_on t (λ m. lives m (seen ++ b ∷ []) (xs ++ ys)) (lives (Text Whole) [] (xs ++ ys)) (lives Name (60 ∷ []) (xs ++ ys)) ≡ true
     → live_on t (λ m. lives m (seen ++ b ∷ []) xs) (lives (Text Whole) [] xs) (lives Name (60 ∷ []) xs) ≡ true = λ t.
     elim t as (λ t. live_on t (λ m. lives m (seen ++ b ∷ []) (xs ++ ys)) (lives (Text Whole) [] (xs ++ ys)) (lives Name (60 ∷ []) (xs ++ ys)) ≡ true
     → live_on t (λ m. lives m (seen ++ b ∷ []) xs) (lives (Text Whole) [] xs) (lives Name (60 ∷ []) xs) ≡ true) [
@@ -121,7 +121,7 @@ lives_front mode seen (b ∷ xs) ys h =
       | Cuts ↦ λ k. lives_front Name (60 ∷ []) xs ys k
       | Fails kind ↦ λ k. k
     ] in
-    go (turn_of mode seen (seen ++ b ∷ []) b) h
+    go (transition_of mode seen (seen ++ b ∷ []) b) h
 
 pub alive_lives : (front : List ℕ) → IsAlive front → lives (Text Whole) [] front ≡ true
 alive_lives front a = lives_front (Text Whole) [] front a.0 (lives_page (front ++ a.0) a.1 a.2)

@@ -14,9 +14,9 @@ use Rattle.html_names.specs.Printing.{attribute_spelling}
 use Rattle.html_read.specs.Tokens.{script_end}
 use Rattle.html_read.specs.Faults.{IsBegun}
 use Rattle.html_read.specs.Machine.{is_word, tag_words, start_words, comment_words}
-use Rattle.html_read.proofs.WordFronts.{none_true, begins_gives, tag_name_is, tag_of_flag, void_of_flag}
-use Rattle.html_read.proofs.Runs.{HasRun, Completes, run_completes}
-use Rattle.html_read.proofs.Fits.{Fits, HasTag, opening, more_attributes, IsSaid, comment_word, no_script_end, InName, InEndName, InComment, InScript, InSpace, InAttribute, InEquals, InValue, InClose, InSlash}
+use Rattle.html_read.proofs.WordLemmas.{none_true, begins_gives, tag_name_is, tag_of_flag, void_of_flag}
+use Rattle.html_read.proofs.HasRunLemmas.{HasRun, Completes, run_completes}
+use Rattle.html_read.proofs.FitsLemmas.{Fits, HasTag, opening, more_attributes, IsSaid, comment_word, no_script_end, InName, InEndName, InComment, InScript, InSpace, InAttribute, InEquals, InValue, InClose, InSlash}
 
 append_some : (xs ys : List ℕ) (b : ℕ) → xs ++ b ∷ ys ≢ []
 append_some xs ys b e = let n : length (xs ++ b ∷ ys) ≡ 0 = ap length e in omega (arith, length-append xs (b ∷ ys))

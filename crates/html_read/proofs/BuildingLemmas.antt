@@ -13,27 +13,28 @@ use Rattle.html_names.proofs.UnescapeLemmas.{clean_when_escaped}
 use Rattle.html_names.proofs.Utf8Lemmas.{AreAscii, utf8_ascii}
 use Rattle.html_read.specs.declared.token.Token.{Token}
 use Rattle.html_read.specs.declared.token.Token.TheVariants.{Start, End, Void, Text, Comment, Script}
-use Rattle.html_read.specs.Names.{is_letter, is_digit, continues_attribute_name, IsTagName, IsAttributeName}
+use Rattle.html_names.specs.Names.{is_letter, is_digit, is_name_byte}
+use Rattle.html_read.specs.Names.{IsTagName, IsAttributeName}
 use Rattle.html_names.specs.Printing.{value_spelling, attribute_spelling, attributes_spelling, tag_prefix}
 use Rattle.html_read.specs.Tokens.{HasValue, IsAttribute, AreAttributes}
 use Rattle.html_read.specs.Faults.{begins_tag}
-use Rattle.html_read.specs.Building.{front_len, IsTokenOf, EndsAttribute, EndsTag, IsAttributeOf, AreAttributesOf, IsTextTokenOf, IsEndOf, IsCommentOf, IsScriptOf, IsTagOf}
-use Rattle.html_read.proofs.WordFronts.{none_true, is_name_byte, is_name_word, begins_with_letter, tag_name_bytes, tag_name_letter, tag_name_not_script, tag_of_flag, flag_of_void}
-use Rattle.html_read.proofs.Quotes.{no_quote, all_weaken, escaped_no_quote}
-use Rattle.html_read.proofs.Standing.{escaped_no_tag}
+use Rattle.html_read.specs.Building.{prefix_len, IsTokenOf, EndsAttribute, EndsTag, IsAttributeOf, AreAttributesOf, IsTextTokenOf, IsEndOf, IsCommentOf, IsScriptOf, IsTagOf}
+use Rattle.html_read.proofs.WordLemmas.{none_true, is_word_byte, is_name_word, begins_with_letter, tag_name_bytes, tag_name_letter, tag_name_not_script, tag_of_flag, flag_of_void}
+use Rattle.html_read.proofs.QuotedLemmas.{no_quote, all_weaken, escaped_no_quote}
+use Rattle.html_read.proofs.StandsLemmas.{escaped_no_tag}
 
 -- An escaped text has no bad place.
 pub no_bad : (text bytes : List ℕ) (at : ℕ) → bytes ≡ escape_of text → IsFirstBad bytes at → ⊥
 no_bad text bytes at e f = none_true (sym (clean_when_escaped text bytes (sym e) at) ∙ f.here)
 
 -- The front that passes a test ends at the first byte that doesn't.
-pub front_len_at : (test : ℕ → Bool) (xs : List ℕ) (stop : ℕ) (more : List ℕ) → list_all test xs ≡ true → test stop ≡ false → front_len test (xs ++ stop ∷ more) ≡ length xs
+pub front_len_at : (test : ℕ → Bool) (xs : List ℕ) (stop : ℕ) (more : List ℕ) → list_all test xs ≡ true → test stop ≡ false → prefix_len test (xs ++ stop ∷ more) ≡ length xs
 front_len_at test [] stop more h n = cond-false (test stop) _ 0 n
 front_len_at test (x ∷ xs) stop more h n =
     let g : (test x ≡ true) × (list_all test xs ≡ true) = and_parts _ _ h in
     cond-true (test x) _ 0 g.0 ∙ ap suc (front_len_at test xs stop more g.1 n)
 
-all_of_attribute : (name : List ℕ) → IsAttributeName name → list_all continues_attribute_name name ≡ true
+all_of_attribute : (name : List ℕ) → IsAttributeName name → list_all is_name_byte name ≡ true
 all_of_attribute [] h = refl
 all_of_attribute (b ∷ bs) h = and_from _ _ (or_left _ _ h.0) h.1
 
@@ -45,13 +46,13 @@ letter_low b h =
 digit_low : (b : ℕ) → is_digit b ≡ true → b < 128
 digit_low b h = let l : b ≤ 57 = leb-true b 57 ((and_parts (nat_le 48 b) (nat_le b 57) h).1) in omega arith
 
-continues_low : (b : ℕ) → continues_attribute_name b ≡ true → b < 128
+continues_low : (b : ℕ) → is_name_byte b ≡ true → b < 128
 continues_low b h =
     ⊎_elim (letter_low b) (λ k. ⊎_elim (digit_low b) (λ d. let e : b ≡ 45 = eqb-true b 45 d in omega arith) (or_cases (is_digit b) (b == 45) k)) (or_cases (is_letter b) (is_digit b || b == 45) h)
 
-continues_ascii : (bs : List ℕ) → list_all continues_attribute_name bs ≡ true → AreAscii bs
+continues_ascii : (bs : List ℕ) → list_all is_name_byte bs ≡ true → AreAscii bs
 continues_ascii [] h = tt
-continues_ascii (b ∷ bs) h = let g : (continues_attribute_name b ≡ true) × (list_all continues_attribute_name bs ≡ true) = and_parts _ _ h in (continues_low b g.0, continues_ascii bs g.1)
+continues_ascii (b ∷ bs) h = let g : (is_name_byte b ≡ true) × (list_all is_name_byte bs ≡ true) = and_parts _ _ h in (continues_low b g.0, continues_ascii bs g.1)
 
 pub attribute_utf8 : (name : List ℕ) → IsAttributeName name → IsUtf8 name
 attribute_utf8 name h = utf8_ascii name (continues_ascii name (all_of_attribute name h))
@@ -61,10 +62,10 @@ pub record Cut (named : List ℕ) (n : ℕ) (name rest : List ℕ) : Type 0 wher
   pub front : take n named ≡ name
   pub back : drop n named ≡ rest
 
-cut_at : (name : List ℕ) (stop : ℕ) (more named : List ℕ) (n : ℕ) → list_all continues_attribute_name name ≡ true → continues_attribute_name stop ≡ false → named ≡ name ++ stop ∷ more
-    → n ≡ front_len continues_attribute_name named → Cut named n name (stop ∷ more)
+cut_at : (name : List ℕ) (stop : ℕ) (more named : List ℕ) (n : ℕ) → list_all is_name_byte name ≡ true → is_name_byte stop ≡ false → named ≡ name ++ stop ∷ more
+    → n ≡ prefix_len is_name_byte named → Cut named n name (stop ∷ more)
 cut_at name stop more named n h s e is =
-    let len : length name ≡ n = sym (is ∙ (ap (front_len continues_attribute_name) e ∙ front_len_at continues_attribute_name name stop more h s)) in
+    let len : length name ≡ n = sym (is ∙ (ap (prefix_len is_name_byte) e ∙ front_len_at is_name_byte name stop more h s)) in
     record { front = ap (take n) e ∙ take_at name (stop ∷ more) n len; back = ap (drop n) e ∙ drop_at name (stop ∷ more) n len }
 
 -- what follows the name of an attribute
@@ -72,7 +73,7 @@ record Stops (bytes : List ℕ) : Type 0 where
   stop : ℕ
   more : List ℕ
   is : bytes ≡ stop ∷ more
-  ends : continues_attribute_name stop ≡ false
+  ends : is_name_byte stop ≡ false
 
 value_stops : (value : Option (List ℕ)) (more : List ℕ) → EndsAttribute more → Stops (value_spelling value ++ more)
 value_stops None [] h = absurd h
@@ -80,7 +81,7 @@ value_stops None (b ∷ bs) h = record { stop = b; more = bs; is = refl; ends = 
 value_stops (Some text) more h = record { stop = 61; more = _; is = refl; ends = refl }
 
 pub attribute_cut : (name : List ℕ) (value : Option (List ℕ)) (more bytes named : List ℕ) (n : ℕ) → IsAttributeName name → EndsAttribute more → bytes ≡ 32 ∷ name ++ value_spelling value ++ more
-    → named ≡ drop 1 bytes → n ≡ front_len continues_attribute_name named → Cut named n name (value_spelling value ++ more)
+    → named ≡ drop 1 bytes → n ≡ prefix_len is_name_byte named → Cut named n name (value_spelling value ++ more)
 attribute_cut name value more bytes named n h ends e d is =
     let s : Stops (value_spelling value ++ more) = value_stops value more ends in
     let split : named ≡ name ++ s.stop ∷ s.more = d ∙ (ap (drop 1) e ∙ (append_assoc name (value_spelling value) more ∙ ap (λ x. name ++ x) s.is)) in
@@ -113,9 +114,9 @@ quoted_value None (b ∷ bs) rest quoted ends r p d =
     absurd (ends.1 (eqb-true b 61 head))
 quoted_value (Some text) more rest quoted ends r p d = record { text = text; is = refl; split = d ∙ (ap (drop 2) r ∙ append_assoc (escape_of text) (34 ∷ []) more) }
 
-pub value_cut : (text more quoted : List ℕ) (n : ℕ) → quoted ≡ escape_of text ++ 34 ∷ more → n ≡ front_len (λ b. not (b == 34)) quoted → (take n quoted ≡ escape_of text) × (drop n quoted ≡ 34 ∷ more)
+pub value_cut : (text more quoted : List ℕ) (n : ℕ) → quoted ≡ escape_of text ++ 34 ∷ more → n ≡ prefix_len (λ b. not (b == 34)) quoted → (take n quoted ≡ escape_of text) × (drop n quoted ≡ 34 ∷ more)
 value_cut text more quoted n e is =
-    let len : length (escape_of text) ≡ n = sym (is ∙ (ap (front_len no_quote) e ∙ front_len_at no_quote (escape_of text) 34 more (escaped_no_quote text) refl)) in
+    let len : length (escape_of text) ≡ n = sym (is ∙ (ap (prefix_len no_quote) e ∙ front_len_at no_quote (escape_of text) 34 more (escaped_no_quote text) refl)) in
     (ap (take n) e ∙ take_at (escape_of text) (34 ∷ more) n len, ap (drop n) e ∙ drop_at (escape_of text) (34 ∷ more) n len)
 
 pub valued_attribute : (name text more bytes found value left : List ℕ) → bytes ≡ 32 ∷ name ++ value_spelling (Some text) ++ more → found ≡ name → value ≡ text → left ≡ 34 ∷ more
@@ -126,8 +127,8 @@ valued_attribute name text more bytes found value left e f v l =
     (λ i. Some (record { name = f i; value = Some (v i) }, len i))
 
 -- The name of a tag.
-name_continues : (name : List ℕ) → is_name_word name ≡ true → list_all continues_attribute_name name ≡ true
-name_continues name h = all_weaken is_name_byte continues_attribute_name (λ b k. ⊎_elim (λ l. or_left (is_letter b) (is_digit b || b == 45) l) (λ d. or_right (is_letter b) (is_digit b || b == 45) (or_left (is_digit b) (b == 45) d)) (or_cases (is_letter b) (is_digit b) k)) name h
+name_continues : (name : List ℕ) → is_name_word name ≡ true → list_all is_name_byte name ≡ true
+name_continues name h = all_weaken is_word_byte is_name_byte (λ b k. ⊎_elim (λ l. or_left (is_letter b) (is_digit b || b == 45) l) (λ d. or_right (is_letter b) (is_digit b || b == 45) (or_left (is_digit b) (b == 45) d)) (or_cases (is_letter b) (is_digit b) k)) name h
 
 attributes_stop : (attributes : List Attr) (tail : List ℕ) → EndsTag tail → Stops (attributes_spelling attributes ++ tail)
 attributes_stop [] [] h = absurd h.0
@@ -135,7 +136,7 @@ attributes_stop [] (b ∷ bs) h = record { stop = b; more = bs; is = refl; ends 
 attributes_stop (a ∷ rest) tail h = record { stop = 32; more = _; is = refl; ends = refl }
 
 pub tag_cut : (name : List ℕ) (attributes : List Attr) (tail bytes named : List ℕ) (n : ℕ) → IsTagName name → EndsTag tail → bytes ≡ tag_prefix name attributes ++ tail → named ≡ drop 1 bytes
-    → n ≡ front_len continues_attribute_name named → Cut named n name (attributes_spelling attributes ++ tail)
+    → n ≡ prefix_len is_name_byte named → Cut named n name (attributes_spelling attributes ++ tail)
 tag_cut name attributes tail bytes named n t ends e d is =
     let s : Stops (attributes_spelling attributes ++ tail) = attributes_stop attributes tail ends in
     let split : named ≡ name ++ s.stop ∷ s.more = d ∙ (ap (drop 1) e ∙ (append_assoc name (attributes_spelling attributes) tail ∙ ap (λ x. name ++ x) s.is)) in
@@ -200,9 +201,9 @@ comment_branch bytes from found h is (Script body place) t e p = absurd (apart_s
 pub no_script_tag : (name : List ℕ) (attributes : List Attr) (tail more : List ℕ) → IsTagName name → EndsTag tail → tag_prefix name attributes ++ tail ≡ codes "<script>" ++ more → ⊥
 no_script_tag name attributes tail more t ends e =
     let bytes : List ℕ = tag_prefix name attributes ++ tail in
-    let here : Cut (drop 1 bytes) (front_len continues_attribute_name (drop 1 bytes)) name (attributes_spelling attributes ++ tail) = tag_cut name attributes tail bytes (drop 1 bytes) _ t ends refl refl refl in
-    let there : Cut (drop 1 bytes) (front_len continues_attribute_name (drop 1 bytes)) (codes "script") (62 ∷ more) =
-    cut_at (codes "script") 62 more (drop 1 bytes) (front_len continues_attribute_name (drop 1 bytes)) refl refl (ap (drop 1) e) refl in
+    let here : Cut (drop 1 bytes) (prefix_len is_name_byte (drop 1 bytes)) name (attributes_spelling attributes ++ tail) = tag_cut name attributes tail bytes (drop 1 bytes) _ t ends refl refl refl in
+    let there : Cut (drop 1 bytes) (prefix_len is_name_byte (drop 1 bytes)) (codes "script") (62 ∷ more) =
+    cut_at (codes "script") 62 more (drop 1 bytes) (prefix_len is_name_byte (drop 1 bytes)) refl refl (ap (drop 1) e) refl in
     none_true (sym (tag_name_not_script name t) ∙ (bytes_eq-Decides name (codes "script")).1 (sym here.front ∙ there.front))
 
 pub script_branch : (bytes : List ℕ) (from : ℕ) (found : Option Token) → starts_with nat_eq bytes (codes "<script>") ≡ true → IsScriptOf bytes from found → IsTokenOf bytes from found
@@ -243,7 +244,7 @@ pub record Parts (a : Attr) (more name rest : List ℕ) : Type 0 where
   pub utf8 : IsUtf8 name
 
 pub attribute_parts : (a : Attr) (more bytes named name rest : List ℕ) (n : ℕ) → IsAttribute a → EndsAttribute more → bytes ≡ attribute_spelling a ++ more → named ≡ drop 1 bytes
-    → n ≡ front_len continues_attribute_name named → name ≡ take n named → rest ≡ drop n named → Parts a more name rest
+    → n ≡ prefix_len is_name_byte named → name ≡ take n named → rest ≡ drop n named → Parts a more name rest
 attribute_parts a more bytes named name rest n h ends e d is f b =
     let cut : Cut named n a.name (value_spelling a.value ++ more) = attribute_cut a.name a.value more bytes named n h.0 ends e d is in
     let same : name ≡ a.name = f ∙ cut.front in
@@ -261,7 +262,7 @@ value_utf8 : (name : List ℕ) (value : Option (List ℕ)) (text : List ℕ) →
 value_utf8 name value text h e = let k : HasValue name (Some text) = subst (HasValue name) e h in k
 
 pub value_parts : (a : Attr) (more rest quoted value left : List ℕ) (n : ℕ) → IsAttribute a → EndsAttribute more → rest ≡ value_spelling a.value ++ more
-    → pointwise nat_eq (take 2 rest) (61 ∷ 34 ∷ []) ≡ true → quoted ≡ drop 2 rest → n ≡ front_len (λ b. not (b == 34)) quoted → value ≡ take n quoted → left ≡ drop n quoted → ValueParts a more value left
+    → pointwise nat_eq (take 2 rest) (61 ∷ 34 ∷ []) ≡ true → quoted ≡ drop 2 rest → n ≡ prefix_len (λ b. not (b == 34)) quoted → value ≡ take n quoted → left ≡ drop n quoted → ValueParts a more value left
 value_parts a more rest quoted value left n h ends r p d is f b =
     let v : Valued a.value more quoted = quoted_value a.value more rest quoted ends r p d in
     let cut : (take n quoted ≡ escape_of v.text) × (drop n quoted ≡ 34 ∷ more) = value_cut v.text more quoted n v.split is in
@@ -332,14 +333,14 @@ pub record TagParts (name : List ℕ) (attributes : List Attr) (tail name0 rest 
   pub rest_is : rest ≡ attributes_spelling attributes ++ tail
 
 pub tag_parts : (name : List ℕ) (attributes : List Attr) (tail bytes named name0 rest : List ℕ) (n : ℕ) → IsTagName name → EndsTag tail → bytes ≡ tag_prefix name attributes ++ tail → named ≡ drop 1 bytes
-    → n ≡ front_len continues_attribute_name named → name0 ≡ take n named → rest ≡ drop n named → TagParts name attributes tail name0 rest
+    → n ≡ prefix_len is_name_byte named → name0 ≡ take n named → rest ≡ drop n named → TagParts name attributes tail name0 rest
 tag_parts name attributes tail bytes named name0 rest n t ends e d is f b =
     let cut : Cut named n name (attributes_spelling attributes ++ tail) = tag_cut name attributes tail bytes named n t ends e d is in record { name_is = f ∙ cut.front; rest_is = b ∙ cut.back }
 
 -- what is read of a tag
 pub record IsRead (bytes named name0 rest : List ℕ) (n : ℕ) (got : Option (List ℕ)) : Type 0 where
   pub named_is : named ≡ drop 1 bytes
-  pub n_is : n ≡ front_len continues_attribute_name named
+  pub n_is : n ≡ prefix_len is_name_byte named
   pub name_is : name0 ≡ take n named
   pub rest_is : rest ≡ drop n named
   pub got_is : IsTagName name0 → got ≡ Some name0

@@ -17,26 +17,27 @@ use Rattle.html_read.specs.declared.place.RunFault.{RunFault}
 use Rattle.html_read.specs.declared.place.RunFault.TheVariants as faults
 use Rattle.html_read.specs.declared.machine.Mode.{Mode}
 use Rattle.html_read.specs.declared.machine.Mode.TheVariants.{Text, Name, EndName, Comment, Script, Space, Attribute, Equals, Value, Close, Slash}
-use Rattle.html_read.specs.declared.machine.Turn.{Turn}
-use Rattle.html_read.specs.declared.machine.Turn.TheVariants.{Goes, Ends, Cuts, Fails}
-use Rattle.html_read.specs.Names.{is_letter, is_digit, continues_attribute_name, IsTagName, IsAttributeName}
+use Rattle.html_read.specs.declared.machine.Transition.{Transition}
+use Rattle.html_read.specs.declared.machine.Transition.TheVariants.{Goes, Ends, Cuts, Fails}
+use Rattle.html_names.specs.Names.{is_letter, is_digit, is_name_byte}
+use Rattle.html_read.specs.Names.{IsTagName, IsAttributeName}
 use Rattle.html_names.specs.Printing.{attribute_spelling, attributes_spelling, tag_prefix}
 use Rattle.html_read.specs.Tokens.{IsAttribute, script_end}
-use Rattle.html_read.specs.Faults.{begins_tag, IsOpenValue, IsRun, IsUtf8Front, IsAtUtf8, IsAtEntity, IsAtText, IsAtComment, IsAtAttribute, HasKind}
-use Rattle.html_read.specs.Machine.{is_word, begins_word, start_words, tag_words, comment_words, tag_flag, char_start, starts_char, start_after, tail_after, entity_after, place_after, text_turn, value_turn, close_turn, flag_turn, after_name, name_turn, end_flag_turn, end_name_turn, comment_turn, script_turn, space_turn, attribute_turn, equals_turn, slash_turn, turn_of}
-use Rattle.html_read.proofs.WordFronts.{none_true, begins_gives, word_passes, is_name_byte, is_name_word, begins_with_letter, start_word_bytes, tag_name_bytes, tag_name_letter, tag_name_not_script, tag_of_flag, flag_of_tag}
-use Rattle.html_read.proofs.Utf8.{IsCharPlace, start_gives, part_completes, Ends as Completed, start_fine, tail_fine, IsFine}
-use Rattle.html_read.proofs.Chars.{char_after, chars_through, on_place, chars_append, utf8_through, after_high, err_ok}
-use Rattle.html_read.proofs.Runs.{AreHigh, IsOpenEntity, HasRun, HasWhole, HasChar, HasEntity}
-use Rattle.html_read.proofs.Fits.{Fits, HasTag, opening}
-use Rattle.html_read.proofs.Quotes.{no_quote, HasNoQuote, all_front, name_no_quote, attribute_no_quote, run_no_quote, quoted, quoted_append, quoted_none, quoted_front, quoted_attribute, open_quoted, after_quote, not_within, begun_open}
-use Rattle.html_read.proofs.Standing.{escaped_no_tag}
+use Rattle.html_read.specs.Faults.{begins_tag, IsOpenValue, IsRun, IsUtf8Prefix, IsAtUtf8, IsAtEntity, IsAtText, IsAtComment, IsAtAttribute, HasKind}
+use Rattle.html_read.specs.Machine.{is_word, begins_word, start_words, tag_words, comment_words, tag_flag, char_start, starts_char, start_after, tail_after, entity_after, place_after, text_transition, value_transition, close_transition, flag_transition, after_name, name_transition, end_flag_transition, end_name_transition, comment_transition, script_transition, space_transition, attribute_transition, equals_transition, slash_transition, transition_of}
+use Rattle.html_read.proofs.WordLemmas.{none_true, begins_gives, word_passes, is_word_byte, is_name_word, begins_with_letter, start_word_bytes, tag_name_bytes, tag_name_letter, tag_name_not_script, tag_of_flag, flag_of_tag}
+use Rattle.html_read.proofs.TailLemmas.{IsCharPlace, start_gives, part_completes, Ends as Completed, start_fine, tail_fine, IsFine}
+use Rattle.html_read.proofs.PlaceAfterLemmas.{char_after, chars_through, on_place, chars_append, utf8_through, after_high, err_ok}
+use Rattle.html_read.proofs.HasRunLemmas.{AreHigh, IsOpenEntity, HasRun, HasWhole, HasChar, HasEntity}
+use Rattle.html_read.proofs.FitsLemmas.{Fits, HasTag, opening}
+use Rattle.html_read.proofs.QuotedLemmas.{no_quote, HasNoQuote, all_front, name_no_quote, attribute_no_quote, run_no_quote, quoted, quoted_append, quoted_none, quoted_front, quoted_attribute, open_quoted, after_quote, not_within, begun_open}
+use Rattle.html_read.proofs.StandsLemmas.{escaped_no_tag}
 
 -- What the UTF-8 of the run says of the byte.
 same_result : (p : Place) (r : Result Place RunFault) → r ≡ Ok p → (f : RunFault) → r ≡ Err f → ⊥
 same_result p r e f g = err_ok f p (sym g ∙ e)
 
-not_front : (run : List ℕ) (p : Place) (b : ℕ) (f : RunFault) → chars_through Whole run ≡ Ok p → char_after p b ≡ Err f → ¬ IsUtf8Front (run ++ b ∷ [])
+not_front : (run : List ℕ) (p : Place) (b : ℕ) (f : RunFault) → chars_through Whole run ≡ Ok p → char_after p b ≡ Err f → ¬ IsUtf8Prefix (run ++ b ∷ [])
 not_front run p b f through fails front =
     let whole : chars_through Whole (run ++ b ∷ [] ++ front.0) ≡ Ok Whole = utf8_through (run ++ b ∷ [] ++ front.0) front.1 in
     let cut : chars_through Whole (run ++ b ∷ [] ++ front.0) ≡ Err f =
@@ -46,7 +47,7 @@ not_front run p b f through fails front =
 whole_utf8 : (run : List ℕ) → HasWhole run → IsUtf8 run
 whole_utf8 run h = subst IsUtf8 (sym h.is) (escaped_utf8 h.text h.utf8)
 
-front_ascii : (run : List ℕ) (b : ℕ) → HasWhole run → b < 128 → IsUtf8Front (run ++ b ∷ [])
+front_ascii : (run : List ℕ) (b : ℕ) → HasWhole run → b < 128 → IsUtf8Prefix (run ++ b ∷ [])
 front_ascii run b h l = ([], subst IsUtf8 (sym (append-nil (run ++ b ∷ []))) (IsUtf8-append run (b ∷ []) (whole_utf8 run h) (utf8_ascii (b ∷ []) (l, tt))))
 
 ascii_word : List ℕ → Bool
@@ -64,22 +65,22 @@ entity_ascii e h =
 entity_utf8 : (base start : ℕ) (run : List ℕ) → HasEntity base start run → IsUtf8 run
 entity_utf8 base start run h = subst IsUtf8 (sym h.is) (IsUtf8-append (escape_of h.text) h.entity (escaped_utf8 h.text h.utf8) (entity_ascii h.entity h.begun))
 
-starts_front : (b : ℕ) → starts_char b ≡ true → IsUtf8Front (b ∷ [])
+starts_front : (b : ℕ) → starts_char b ≡ true → IsUtf8Prefix (b ∷ [])
 starts_front b h =
     ⊎_elim (λ l. ([], utf8_ascii (b ∷ []) (ltb-true b 128 l, tt))) (λ ok. go (char_start b) refl ok) (or_cases _ _ h)
   where
-    place_front : (p : Place) → IsCharPlace (b ∷ []) p → IsUtf8Front (b ∷ [])
+    place_front : (p : Place) → IsCharPlace (b ∷ []) p → IsUtf8Prefix (b ∷ [])
     place_front Whole c = ([], c)
     place_front (Char tail) c = let e : Completed (b ∷ []) = part_completes tail (b ∷ []) c in (e.more, e.utf8)
     place_front (Entity start) c = absurd c
 
-    go : (r : Result Place RunFault) → char_start b ≡ r → is_ok r ≡ true → IsUtf8Front (b ∷ [])
+    go : (r : Result Place RunFault) → char_start b ≡ r → is_ok r ≡ true → IsUtf8Prefix (b ∷ [])
     go (Ok p) e ok = place_front p (start_gives b p e)
     go (Err f) e ok = absurd (none_true ok)
 
-front_starts : (run : List ℕ) (b : ℕ) → IsUtf8 run → starts_char b ≡ true → IsUtf8Front (run ++ b ∷ [])
+front_starts : (run : List ℕ) (b : ℕ) → IsUtf8 run → starts_char b ≡ true → IsUtf8Prefix (run ++ b ∷ [])
 front_starts run b u h =
-    let f : IsUtf8Front (b ∷ []) = starts_front b h in
+    let f : IsUtf8Prefix (b ∷ []) = starts_front b h in
     (f.0, subst IsUtf8 (sym (append_assoc run (b ∷ []) f.0)) (IsUtf8-append run (b ∷ f.0) u f.1))
 
 no_start : (b : ℕ) → starts_char b ≡ false → (f : RunFault) × (char_after Whole b ≡ Err f)
@@ -95,7 +96,7 @@ no_start b h =
 abbrev RunFails : ℕ → List ℕ → ℕ → RunFault → Type 0
 RunFails base run b faults.Byte = HasWhole run × (b < 128)
 RunFails base run b faults.Entity = ((start : ℕ) × HasEntity base start run) × (starts_char b ≡ true)
-RunFails base run b faults.Utf8 = ¬ IsUtf8Front (run ++ b ∷ [])
+RunFails base run b faults.Utf8 = ¬ IsUtf8Prefix (run ++ b ∷ [])
 
 abbrev FailsWith : ℕ → List ℕ → ℕ → Result Place RunFault → Type 0
 FailsWith base run b (Ok p) = Unit {0}
@@ -143,11 +144,11 @@ run_fails base (Entity start) run token b h = entity_fails base b start run (dro
 abbrev OnlyRun : List ℕ → List ℕ → Type 0
 OnlyRun rest run = (other : List ℕ) → IsRun rest other → other ≡ run
 
-utf8_kind : (rest run : List ℕ) (b : ℕ) → IsRun rest run → ¬ IsUtf8Front (run ++ b ∷ []) → HasKind rest b kinds.Utf8
+utf8_kind : (rest run : List ℕ) (b : ℕ) → IsRun rest run → ¬ IsUtf8Prefix (run ++ b ∷ []) → HasKind rest b kinds.Utf8
 utf8_kind rest run b is n = (run, is, n)
 
-no_utf8 : (rest run : List ℕ) (b : ℕ) → OnlyRun rest run → IsUtf8Front (run ++ b ∷ []) → ¬ IsAtUtf8 rest b
-no_utf8 rest run b only front k = k.2 (subst (λ r. IsUtf8Front (r ++ b ∷ [])) (sym (only k.0 k.1)) front)
+no_utf8 : (rest run : List ℕ) (b : ℕ) → OnlyRun rest run → IsUtf8Prefix (run ++ b ∷ []) → ¬ IsAtUtf8 rest b
+no_utf8 rest run b only front k = k.2 (subst (λ r. IsUtf8Prefix (r ++ b ∷ [])) (sym (only k.0 k.1)) front)
 
 no_entity : (rest run : List ℕ) → OnlyRun rest run → HasWhole run → ¬ IsAtEntity rest
 no_entity rest run only h k = not_within h.text k.0 k.1 (sym h.is ∙ sym (only (escape_of k.0 ++ k.1) k.2)) k.3
@@ -156,7 +157,7 @@ entity_kind : (base start : ℕ) (rest run : List ℕ) (b : ℕ) → IsRun rest 
 entity_kind base start rest run b is only h s =
     (no_utf8 rest run b only (front_starts run b (entity_utf8 base start run h) s), (h.text, h.entity, subst (IsRun rest) h.is is, begun_open h.entity h.begun))
 
-abbrev KindIs : List ℕ → ℕ → Turn → Type 0
+abbrev KindIs : List ℕ → ℕ → Transition → Type 0
 KindIs rest b (Goes mode) = Unit {0}
 KindIs rest b Ends = Unit {0}
 KindIs rest b Cuts = Unit {0}
@@ -195,7 +196,7 @@ text_only : (run : List ℕ) → begins_tag run ≡ false → OnlyRun run run
 text_only run n other k =
     ⊎_elim (λ s. s.1) (λ v. absurd (none_true (sym n ∙ front_tag run v.0 v.1 (32 ∷ v.2 ++ 61 ∷ 34 ∷ other) v.6))) k
 
-text_kind : (p : Place) (rest : List ℕ) (b : ℕ) → HasRun 0 p rest → (r : Result Place RunFault) → FailsWith 0 rest b r → KindIs rest b (text_turn (length (rest ++ b ∷ [])) b r)
+text_kind : (p : Place) (rest : List ℕ) (b : ℕ) → HasRun 0 p rest → (r : Result Place RunFault) → FailsWith 0 rest b r → KindIs rest b (text_transition (length (rest ++ b ∷ [])) b r)
 text_kind p rest b h (Ok q) f = tt
 text_kind p rest b h (Err faults.Byte) f =
     let n : begins_tag rest ≡ false = run_no_tag 0 p rest h in
@@ -237,9 +238,9 @@ record FollowsName (bytes : List ℕ) : Type 0 where
   after : ℕ
   more : List ℕ
   is : bytes ≡ after ∷ more
-  other : is_name_byte after ≡ false
+  other : is_word_byte after ≡ false
 
-attributes_follow : (attributes : List Attr) (x : ℕ) (more : List ℕ) → is_name_byte x ≡ false → FollowsName (attributes_spelling attributes ++ x ∷ more)
+attributes_follow : (attributes : List Attr) (x : ℕ) (more : List ℕ) → is_word_byte x ≡ false → FollowsName (attributes_spelling attributes ++ x ∷ more)
 attributes_follow [] x more n = record { after = x; more = more; is = refl; other = n }
 attributes_follow (a ∷ rest) x more n = record { after = 32; more = _; is = refl; other = refl }
 
@@ -248,7 +249,7 @@ record InTag (rest : List ℕ) (b : ℕ) : Type 0 where
   comment : ¬ IsAtComment rest
   attribute : IsAtAttribute rest b
 
-in_tag : (v : Bool) (front suffix : List ℕ) (b x : ℕ) (more : List ℕ) → HasTag v front → suffix ++ b ∷ [] ≡ x ∷ more → is_name_byte x ≡ false → InTag (front ++ suffix) b
+in_tag : (v : Bool) (front suffix : List ℕ) (b x : ℕ) (more : List ℕ) → HasTag v front → suffix ++ b ∷ [] ≡ x ∷ more → is_word_byte x ≡ false → InTag (front ++ suffix) b
 in_tag v front suffix b x more h e n =
     let named : IsTagName h.name = tag_of_flag h.name v h.flag in
     let f : FollowsName (attributes_spelling h.attributes ++ x ∷ more) = attributes_follow h.attributes x more n in
@@ -265,41 +266,41 @@ front_closed : (v : Bool) (front suffix : List ℕ) → HasTag v front → quote
 front_closed v front suffix h q =
     quoted_append false front suffix ∙ (ap (λ s. quoted s suffix) (ap (quoted false) h.is ∙ quoted_front h.name h.attributes (tag_of_flag h.name v h.flag) h.are) ∙ q)
 
-tag_kind : (v : Bool) (front suffix : List ℕ) (b x : ℕ) (more : List ℕ) → HasTag v front → quoted false suffix ≡ false → suffix ++ b ∷ [] ≡ x ∷ more → is_name_byte x ≡ false
+tag_kind : (v : Bool) (front suffix : List ℕ) (b x : ℕ) (more : List ℕ) → HasTag v front → quoted false suffix ≡ false → suffix ++ b ∷ [] ≡ x ∷ more → is_word_byte x ≡ false
     → HasKind (front ++ suffix) b kinds.Attribute
 tag_kind v front suffix b x more h q e n =
     let t : InTag (front ++ suffix) b = in_tag v front suffix b x more h e n in
     let c : quoted false (front ++ suffix) ≡ false = front_closed v front suffix h q in
     (no_utf8_here (front ++ suffix) b c t.tag, no_entity_here (front ++ suffix) c t.tag, no_text (front ++ suffix) t.tag, t.comment, t.attribute)
 
-close_kind : (v w : Bool) (front suffix : List ℕ) (b x : ℕ) (more : List ℕ) → HasTag w front → quoted false suffix ≡ false → suffix ++ b ∷ [] ≡ x ∷ more → is_name_byte x ≡ false
-    → KindIs (front ++ suffix) b (close_turn v b)
+close_kind : (v w : Bool) (front suffix : List ℕ) (b x : ℕ) (more : List ℕ) → HasTag w front → quoted false suffix ≡ false → suffix ++ b ∷ [] ≡ x ∷ more → is_word_byte x ≡ false
+    → KindIs (front ++ suffix) b (close_transition v b)
 close_kind v w front suffix b x more h q e n =
     cond_both (b == 32) _ _ (KindIs (front ++ suffix) b) (λ s. tt) (λ n32.
     cond_both (b == 62) _ _ (KindIs (front ++ suffix) b) (λ s. tt) (λ n62.
     cond_both (b == 47 && v) _ _ (KindIs (front ++ suffix) b) (λ s. tt) (λ m. tag_kind w front suffix b x more h q e n)))
 
-space_kind : (v : Bool) (front : List ℕ) (b len : ℕ) → HasTag v front → KindIs (front ++ 32 ∷ []) b (space_turn v len b)
+space_kind : (v : Bool) (front : List ℕ) (b len : ℕ) → HasTag v front → KindIs (front ++ 32 ∷ []) b (space_transition v len b)
 space_kind v front b len h =
     cond_both (is_letter b) _ _ (KindIs (front ++ 32 ∷ []) b) (λ s. tt) (λ n. tag_kind v front (32 ∷ []) b 32 (b ∷ []) h refl refl refl)
 
 named_closed : (name : List ℕ) → IsAttributeName name → quoted false (32 ∷ name) ≡ false
 named_closed name h = quoted_none false name (attribute_no_quote name h)
 
-attribute_kind : (v : Bool) (start : ℕ) (front name seen : List ℕ) (b : ℕ) → HasTag v front → IsAttributeName name → KindIs (front ++ 32 ∷ name) b (attribute_turn v start seen b)
+attribute_kind : (v : Bool) (start : ℕ) (front name seen : List ℕ) (b : ℕ) → HasTag v front → IsAttributeName name → KindIs (front ++ 32 ∷ name) b (attribute_transition v start seen b)
 attribute_kind v start front name seen b h named =
-    cond_both (continues_attribute_name b) _ _ (KindIs (front ++ 32 ∷ name) b) (λ s. tt) (λ n.
+    cond_both (is_name_byte b) _ _ (KindIs (front ++ 32 ∷ name) b) (λ s. tt) (λ n.
     cond_both (b == 61) _ _ (KindIs (front ++ 32 ∷ name) b) (λ s. tt) (λ m.
     cond_both (bytes_eq seen (codes "hidden")) _ _ (KindIs (front ++ 32 ∷ name) b) (λ s. close_kind v v front (32 ∷ name) b 32 (name ++ b ∷ []) h (named_closed name named) refl refl) (λ k.
     tag_kind v front (32 ∷ name) b 32 (name ++ b ∷ []) h (named_closed name named) refl refl)))
 
-equals_kind : (v : Bool) (front name : List ℕ) (b : ℕ) → HasTag v front → IsAttributeName name → KindIs (front ++ (32 ∷ name ++ 61 ∷ [])) b (equals_turn v b)
+equals_kind : (v : Bool) (front name : List ℕ) (b : ℕ) → HasTag v front → IsAttributeName name → KindIs (front ++ (32 ∷ name ++ 61 ∷ [])) b (equals_transition v b)
 equals_kind v front name b h named =
     cond_both (b == 34) _ _ (KindIs (front ++ (32 ∷ name ++ 61 ∷ [])) b) (λ s. tt) (λ n.
     tag_kind v front (32 ∷ name ++ 61 ∷ []) b 32 (name ++ 61 ∷ [] ++ b ∷ []) h
     (quoted_append false (32 ∷ name) (61 ∷ []) ∙ ap (λ s. quoted s (61 ∷ [])) (named_closed name named)) refl refl)
 
-slash_kind : (front : List ℕ) (b : ℕ) → HasTag true front → KindIs (front ++ 47 ∷ []) b (slash_turn b)
+slash_kind : (front : List ℕ) (b : ℕ) → HasTag true front → KindIs (front ++ 47 ∷ []) b (slash_transition b)
 slash_kind front b h =
     cond_both (b == 62) _ _ (KindIs (front ++ 47 ∷ []) b) (λ s. tt) (λ n. tag_kind true front (47 ∷ []) b 47 (b ∷ []) h refl refl refl)
 
@@ -318,7 +319,7 @@ value_only v front name run rest h q e t other k =
     ⊎_elim (λ s. absurd (none_true (sym s.0 ∙ t))) found k
 
 value_kind : (v : Bool) (p : Place) (front name run : List ℕ) (b base : ℕ) → HasTag v front → IsAttributeName name → HasRun base p run → (r : Result Place RunFault) → FailsWith base run b r
-    → KindIs (opening front name ++ run) b (value_turn v b r)
+    → KindIs (opening front name ++ run) b (value_transition v b r)
 value_kind v p front name run b base h named has r f =
     let rest : List ℕ = opening front name ++ run in
     let suffix : List ℕ = (32 ∷ name ++ 61 ∷ 34 ∷ []) ++ run in
@@ -329,7 +330,7 @@ value_kind v p front name run b base h named has r f =
     let is : IsRun rest run = inr (h.name, h.attributes, name, tag_of_flag h.name v h.flag, h.are, named, apart ∙ (λ i. h.is i ++ append_assoc (32 ∷ name) (61 ∷ 34 ∷ []) run i), q) in
     go r f rest is only t
   where
-    go : (r : Result Place RunFault) → FailsWith base run b r → (rest : List ℕ) → IsRun rest run → OnlyRun rest run → InTag rest b → KindIs rest b (value_turn v b r)
+    go : (r : Result Place RunFault) → FailsWith base run b r → (rest : List ℕ) → IsRun rest run → OnlyRun rest run → InTag rest b → KindIs rest b (value_transition v b r)
     go (Ok p) f rest is only t = tt
     go (Err faults.Byte) f rest is only t =
         cond_both (b == 34) _ _ (KindIs rest b) (λ s. tt) (λ n.
@@ -342,22 +343,22 @@ record NameSplit (name other : List ℕ) (b after : ℕ) : Type 0 where
   same : name ≡ other
   last : b ≡ after
 
-split_name : (name other more : List ℕ) (b after : ℕ) → is_name_word name ≡ true → is_name_word other ≡ true → is_name_byte after ≡ false
+split_name : (name other more : List ℕ) (b after : ℕ) → is_name_word name ≡ true → is_name_word other ≡ true → is_word_byte after ≡ false
     → name ++ b ∷ [] ≡ other ++ after ∷ more → NameSplit name other b after
 split_name [] [] more b after h k n e = record { same = refl; last = (same_heads b after [] more e).0 }
 split_name [] (y ∷ other) more b after h k n e =
     let len : length (b ∷ []) ≡ length ((y ∷ other) ++ after ∷ more) = ap length e in absurd (omega (arith, length-append (y ∷ other) (after ∷ more)))
 split_name (x ∷ name) [] more b after h k n e =
-    absurd (none_true (sym n ∙ (ap is_name_byte (sym ((same_heads x after (name ++ b ∷ []) more e).0)) ∙ (and_parts _ _ h).0)))
+    absurd (none_true (sym n ∙ (ap is_word_byte (sym ((same_heads x after (name ++ b ∷ []) more e).0)) ∙ (and_parts _ _ h).0)))
 split_name (x ∷ name) (y ∷ other) more b after h k n e =
     let g : (x ≡ y) × (name ++ b ∷ [] ≡ other ++ after ∷ more) = same_heads x y (name ++ b ∷ []) (other ++ after ∷ more) e in
     let s : NameSplit name other b after = split_name name other more b after ((and_parts _ _ h).1) ((and_parts _ _ k).1) n g.1 in
     record { same = (λ i. g.0 i ∷ s.same i); last = s.last }
 
-at_name : (name : List ℕ) (b : ℕ) → is_name_word name ≡ true → IsAtAttribute (60 ∷ name) b → IsTagName name × (is_name_byte b ≡ false)
+at_name : (name : List ℕ) (b : ℕ) → is_name_word name ≡ true → IsAtAttribute (60 ∷ name) b → IsTagName name × (is_word_byte b ≡ false)
 at_name name b w k =
     let s : NameSplit name k.0 b k.1 = split_name name k.0 k.2 b k.1 w (tag_name_bytes k.0 k.3) k.5 ((same_heads 60 60 (name ++ b ∷ []) (k.0 ++ k.1 ∷ k.2) k.4).1) in
-    (subst IsTagName (sym s.same) k.3, ap is_name_byte s.last ∙ k.5)
+    (subst IsTagName (sym s.same) k.3, ap is_word_byte s.last ∙ k.5)
 
 one_not_two : (more : List ℕ) → 60 ∷ [] ≡ 60 ∷ 33 ∷ more → ⊥
 one_not_two more e = let n : 1 ≡ length more + 2 = ap length e ∙ omega arith in omega arith
@@ -365,12 +366,12 @@ one_not_two more e = let n : 1 ≡ length more + 2 = ap length e ∙ omega arith
 name_no_comment : (name : List ℕ) → is_name_word name ≡ true → ¬ IsAtComment (60 ∷ name)
 name_no_comment [] w k = one_not_two k.0 k.1
 name_no_comment (c ∷ name) w k =
-    no_comment (60 ∷ c ∷ name) c name refl (λ e. let f : is_name_byte 33 ≡ true = ap is_name_byte (sym e) ∙ (and_parts _ _ w).0 in none_true f) k
+    no_comment (60 ∷ c ∷ name) c name refl (λ e. let f : is_word_byte 33 ≡ true = ap is_word_byte (sym e) ∙ (and_parts _ _ w).0 in none_true f) k
 
-name_kind : (name : List ℕ) (b : ℕ) → is_name_word name ≡ true → (IsTagName name → is_name_byte b ≡ false → ⊥) → HasKind (60 ∷ name) b kinds.Name
+name_kind : (name : List ℕ) (b : ℕ) → is_name_word name ≡ true → (IsTagName name → is_word_byte b ≡ false → ⊥) → HasKind (60 ∷ name) b kinds.Name
 name_kind name b w n =
     let q : quoted false (60 ∷ name) ≡ false = quoted_none false name (name_no_quote name w) in
-    (no_utf8_here (60 ∷ name) b q refl, no_entity_here (60 ∷ name) q refl, no_text (60 ∷ name) refl, name_no_comment name w, λ k. let g : IsTagName name × (is_name_byte b ≡ false) = at_name name b w k in n g.0 g.1)
+    (no_utf8_here (60 ∷ name) b q refl, no_entity_here (60 ∷ name) q refl, no_text (60 ∷ name) refl, name_no_comment name w, λ k. let g : IsTagName name × (is_word_byte b ≡ false) = at_name name b w k in n g.0 g.1)
 
 no_flag : (name : List ℕ) (o : Option Bool) → tag_flag name ≡ o → o ≡ None → IsTagName name → ⊥
 no_flag name o e n t =
@@ -379,12 +380,12 @@ no_flag name o e n t =
     some_none : (v : Bool) → ◌≡◌ {A = Option Bool} (Some v) None → ⊥
     some_none v k = cc
 
-flag_kind : (name : List ℕ) (b : ℕ) → is_name_word name ≡ true → (o : Option Bool) → tag_flag name ≡ o → KindIs (60 ∷ name) b (flag_turn o b)
+flag_kind : (name : List ℕ) (b : ℕ) → is_name_word name ≡ true → (o : Option Bool) → tag_flag name ≡ o → KindIs (60 ∷ name) b (flag_transition o b)
 flag_kind name b w None e = name_kind name b w (λ t n. no_flag name None e refl t)
 flag_kind name b w (Some v) e =
     cond_both (is_letter b || is_digit b) _ _ (KindIs (60 ∷ name) b) (λ l. name_kind name b w (λ t n. none_true (sym n ∙ l))) (λ n.
     let h : HasTag v (60 ∷ name) = record { name = name; attributes = []; flag = e; are = tt; is = ap (λ x. 60 ∷ x) (sym (append-nil name)) } in
-    subst (λ s. KindIs s b (close_turn v b)) (append-nil (60 ∷ name)) (close_kind v v (60 ∷ name) [] b b [] h refl refl n))
+    subst (λ s. KindIs s b (close_transition v b)) (append-nil (60 ∷ name)) (close_kind v v (60 ∷ name) [] b b [] h refl refl n))
 
 empty_no_tag : IsTagName [] → ⊥
 empty_no_tag t = none_true (tag_name_letter [] t)
@@ -399,7 +400,7 @@ after_kind name b w =
     cond_both (b == 62) _ _ (KindIs (60 ∷ name) b) (λ e. tt) (λ e. name_kind name b w (λ t n. none_true (sym (tag_name_not_script name t) ∙ s)))) (λ s.
     flag_kind name b w (tag_flag name) refl))
 
-name_turn_kind : (name : List ℕ) (b : ℕ) → is_name_word name ≡ true → KindIs (60 ∷ name) b (name_turn name (name ++ b ∷ []) b)
+name_turn_kind : (name : List ℕ) (b : ℕ) → is_name_word name ≡ true → KindIs (60 ∷ name) b (name_transition name (name ++ b ∷ []) b)
 name_turn_kind name b w =
     cond_both (begins_word start_words (name ++ b ∷ [])) _ _ (KindIs (60 ∷ name) b) (λ s. tt) (λ n. after_kind name b w)
 
@@ -417,53 +418,53 @@ end_kind name b w =
     let q : quoted false (60 ∷ 47 ∷ name) ≡ false = quoted_none false name (name_no_quote name w) in
     (no_utf8_here (60 ∷ 47 ∷ name) b q refl, no_entity_here (60 ∷ 47 ∷ name) q refl, no_text (60 ∷ 47 ∷ name) refl, no_comment (60 ∷ 47 ∷ name) 47 name refl (λ e. omega arith), end_no_attribute name b)
 
-end_flag_kind : (name : List ℕ) (b : ℕ) (o : Option Bool) → is_name_word name ≡ true → KindIs (60 ∷ 47 ∷ name) b (end_flag_turn o b)
+end_flag_kind : (name : List ℕ) (b : ℕ) (o : Option Bool) → is_name_word name ≡ true → KindIs (60 ∷ 47 ∷ name) b (end_flag_transition o b)
 end_flag_kind name b None w = end_kind name b w
 end_flag_kind name b (Some v) w = cond_both (b == 62) _ _ (KindIs (60 ∷ 47 ∷ name) b) (λ s. tt) (λ n. end_kind name b w)
 
-end_turn_kind : (name : List ℕ) (b : ℕ) → is_name_word name ≡ true → KindIs (60 ∷ 47 ∷ name) b (end_name_turn name (name ++ b ∷ []) b)
+end_turn_kind : (name : List ℕ) (b : ℕ) → is_name_word name ≡ true → KindIs (60 ∷ 47 ∷ name) b (end_name_transition name (name ++ b ∷ []) b)
 end_turn_kind name b w =
     cond_both (begins_word tag_words (name ++ b ∷ [])) _ _ (KindIs (60 ∷ 47 ∷ name) b) (λ s. tt) (λ n. end_flag_kind name b (tag_flag name) w)
 
 -- In a comment.
-comment_kind : (word : List ℕ) (b : ℕ) → HasNoQuote word → KindIs (60 ∷ 33 ∷ word) b (comment_turn (word ++ b ∷ []))
+comment_kind : (word : List ℕ) (b : ℕ) → HasNoQuote word → KindIs (60 ∷ 33 ∷ word) b (comment_transition (word ++ b ∷ []))
 comment_kind word b n =
     let q : quoted false (60 ∷ 33 ∷ word) ≡ false = quoted_none false word n in
     cond_both (is_word comment_words (word ++ b ∷ [])) _ _ (KindIs (60 ∷ 33 ∷ word) b) (λ s. tt) (λ m.
     cond_both (begins_word comment_words (word ++ b ∷ [])) _ _ (KindIs (60 ∷ 33 ∷ word) b) (λ s. tt) (λ k.
     (no_utf8_here (60 ∷ 33 ∷ word) b q refl, no_entity_here (60 ∷ 33 ∷ word) q refl, no_text (60 ∷ 33 ∷ word) refl, (word, refl))))
 
-script_kind : (rest token : List ℕ) (b : ℕ) → KindIs rest b (script_turn token)
+script_kind : (rest token : List ℕ) (b : ℕ) → KindIs rest b (script_transition token)
 script_kind rest token b = cond_both (ends_with nat_eq token script_end) _ _ (KindIs rest b) (λ s. tt) (λ n. tt)
 
 front_is_name : (name : List ℕ) → begins_word start_words name ≡ true → is_name_word name ≡ true
 front_is_name name h =
     let g : (rest : List ℕ) × (is_word start_words (name ++ rest) ≡ true) = begins_gives start_words name h in
-    all_front is_name_byte name g.0 (start_word_bytes (name ++ g.0) g.1)
+    all_front is_word_byte name g.0 (start_word_bytes (name ++ g.0) g.1)
 
 comment_no_quote : (word : List ℕ) → begins_word comment_words word ≡ true → HasNoQuote word
 comment_no_quote word h =
     let g : (rest : List ℕ) × (is_word comment_words (word ++ rest) ≡ true) = begins_gives comment_words word h in
     all_front no_quote word g.0 (word_passes (list_all no_quote) comment_words (word ++ g.0) refl g.1)
 
-turn_kind : (mode : Mode) (rest : List ℕ) (b : ℕ) → Fits mode rest → KindIs rest b (turn_of mode rest (rest ++ b ∷ []) b)
+turn_kind : (mode : Mode) (rest : List ℕ) (b : ℕ) → Fits mode rest → KindIs rest b (transition_of mode rest (rest ++ b ∷ []) b)
 turn_kind (Text p) rest b h = text_kind p rest b h (place_after p (rest ++ b ∷ []) b) (run_fails 0 p rest (rest ++ b ∷ []) b h)
-turn_kind Name rest b h = subst (λ s. KindIs s b (turn_of Name s (s ++ b ∷ []) b)) (sym h.is) (name_turn_kind h.name b (front_is_name h.name h.begins))
-turn_kind EndName rest b h = subst (λ s. KindIs s b (turn_of EndName s (s ++ b ∷ []) b)) (sym h.is) (end_turn_kind h.name b (front_is_name h.name (or_right _ _ h.begins)))
-turn_kind Comment rest b h = subst (λ s. KindIs s b (turn_of Comment s (s ++ b ∷ []) b)) (sym h.is) (comment_kind h.word b (comment_no_quote h.word h.begins))
+turn_kind Name rest b h = subst (λ s. KindIs s b (transition_of Name s (s ++ b ∷ []) b)) (sym h.is) (name_turn_kind h.name b (front_is_name h.name h.begins))
+turn_kind EndName rest b h = subst (λ s. KindIs s b (transition_of EndName s (s ++ b ∷ []) b)) (sym h.is) (end_turn_kind h.name b (front_is_name h.name (or_right _ _ h.begins)))
+turn_kind Comment rest b h = subst (λ s. KindIs s b (transition_of Comment s (s ++ b ∷ []) b)) (sym h.is) (comment_kind h.word b (comment_no_quote h.word h.begins))
 turn_kind Script rest b h = script_kind rest (drop 8 (rest ++ b ∷ [])) b
-turn_kind (Space v) rest b h = subst (λ s. KindIs s b (turn_of (Space v) s (s ++ b ∷ []) b)) (sym h.is) (space_kind v h.front b (length (h.front ++ 32 ∷ [] ++ b ∷ [])) h.tag)
-turn_kind (Attribute v start) rest b h = subst (λ s. KindIs s b (turn_of (Attribute v start) s (s ++ b ∷ []) b)) (sym h.is) (attribute_kind v start h.front h.name (drop start (h.front ++ 32 ∷ h.name)) b h.tag h.named)
-turn_kind (Equals v) rest b h = subst (λ s. KindIs s b (turn_of (Equals v) s (s ++ b ∷ []) b)) (sym h.is) (equals_kind v h.front h.name b h.tag h.named)
+turn_kind (Space v) rest b h = subst (λ s. KindIs s b (transition_of (Space v) s (s ++ b ∷ []) b)) (sym h.is) (space_kind v h.front b (length (h.front ++ 32 ∷ [] ++ b ∷ [])) h.tag)
+turn_kind (Attribute v start) rest b h = subst (λ s. KindIs s b (transition_of (Attribute v start) s (s ++ b ∷ []) b)) (sym h.is) (attribute_kind v start h.front h.name (drop start (h.front ++ 32 ∷ h.name)) b h.tag h.named)
+turn_kind (Equals v) rest b h = subst (λ s. KindIs s b (transition_of (Equals v) s (s ++ b ∷ []) b)) (sym h.is) (equals_kind v h.front h.name b h.tag h.named)
 turn_kind (Value v p) rest b h =
-    subst (λ s. KindIs s b (turn_of (Value v p) s (s ++ b ∷ []) b)) (sym h.is)
+    subst (λ s. KindIs s b (transition_of (Value v p) s (s ++ b ∷ []) b)) (sym h.is)
     (value_kind v p h.front h.name h.run b (length (opening h.front h.name)) h.tag h.named h.has (place_after p (opening h.front h.name ++ h.run ++ b ∷ []) b)
     (run_fails (length (opening h.front h.name)) p h.run (opening h.front h.name ++ h.run ++ b ∷ []) b h.has))
 turn_kind (Close v) rest b h =
-    subst (λ s. KindIs s b (turn_of (Close v) s (s ++ b ∷ []) b)) (sym h.is)
+    subst (λ s. KindIs s b (transition_of (Close v) s (s ++ b ∷ []) b)) (sym h.is)
     (close_kind v v h.front (attribute_spelling h.attribute) b 32 _ h.tag (written_closed h.attribute h.fine) refl refl)
-turn_kind Slash rest b h = subst (λ s. KindIs s b (turn_of Slash s (s ++ b ∷ []) b)) (sym h.is) (slash_kind h.front b h.tag)
+turn_kind Slash rest b h = subst (λ s. KindIs s b (transition_of Slash s (s ++ b ∷ []) b)) (sym h.is) (slash_kind h.front b h.tag)
 
 -- The kind that the step tells is the fault's.
-pub fails_kind : (mode : Mode) (rest : List ℕ) (b : ℕ) (kind : ReadKind) → Fits mode rest → turn_of mode rest (rest ++ b ∷ []) b ≡ Fails kind → HasKind rest b kind
+pub fails_kind : (mode : Mode) (rest : List ℕ) (b : ℕ) (kind : ReadKind) → Fits mode rest → transition_of mode rest (rest ++ b ∷ []) b ≡ Fails kind → HasKind rest b kind
 fails_kind mode rest b kind h e = subst (KindIs rest b) e (turn_kind mode rest b h)

@@ -7,7 +7,8 @@ use Rattle.std.proofs.lemmas.Bool.{or_cases, or_left, or_right, and_parts, cases
 use Rattle.std.proofs.lemmas.Bool.Decides.{Decides-eqb}
 use Rattle.std.proofs.lemmas.Slice.Eq.{bytes_eq-Decides, starts_is}
 use Rattle.html_names.specs.Elements.{begins_name, element_rows, void_flag, IsVoidName}
-use Rattle.html_read.specs.Names.{is_letter, is_digit, is_tag_name, IsTagName}
+use Rattle.html_names.specs.Names.{is_letter, is_digit}
+use Rattle.html_read.specs.Names.{is_tag_name, IsTagName}
 use Rattle.html_read.specs.Machine.{is_word, begins_word, tag_words, start_words, tag_flag}
 
 pub none_true : false ≡ true → ⊥
@@ -78,11 +79,11 @@ template_eq w =
 pub tag_name_is : (w : List ℕ) → is_tag_name w ≡ is_word tag_words w
 tag_name_is w = (λ i. row_word element_rows w i || template_eq w i) ∙ (sym (word_append (map name_in element_rows) template_word w) ∙ ap (λ ws. is_word ws w) (sym words_are))
 
-abbrev pub is_name_byte : ℕ → Bool
-is_name_byte b = is_letter b || is_digit b
+abbrev pub is_word_byte : ℕ → Bool
+is_word_byte b = is_letter b || is_digit b
 
 abbrev pub is_name_word : List ℕ → Bool
-is_name_word w = list_all is_name_byte w
+is_name_word w = list_all is_word_byte w
 
 abbrev pub begins_with_letter : List ℕ → Bool
 begins_with_letter [] = false

@@ -17,15 +17,16 @@ use Rattle.html_read.specs.declared.fault.ReadKind.TheVariants as kinds
 use Rattle.html_read.specs.declared.place.Place.TheVariants.{Whole}
 use Rattle.html_read.specs.declared.machine.Mode.{Mode}
 use Rattle.html_read.specs.declared.machine.Mode.TheVariants.{Name, EndName, Comment, Script, Space, Attribute, Value, Close, Slash}
-use Rattle.html_read.specs.declared.machine.Turn.TheVariants.{Goes, Ends, Fails}
-use Rattle.html_read.specs.Names.{is_letter, continues_attribute_name, IsTagName, IsAttributeName}
+use Rattle.html_read.specs.declared.machine.Transition.TheVariants.{Goes, Ends, Fails}
+use Rattle.html_names.specs.Names.{is_letter, is_name_byte}
+use Rattle.html_read.specs.Names.{IsTagName, IsAttributeName}
 use Rattle.html_names.specs.Printing.{value_spelling, attribute_spelling, attributes_spelling, tag_prefix}
 use Rattle.html_names.specs.Comments.{comment_data}
 use Rattle.html_read.specs.Tokens.{HasValue, AreAttributes, script_end, IsScriptBody, spelling, IsToken, is_text}
-use Rattle.html_read.specs.Machine.{is_word, begins_word, tag_words, start_words, tag_flag, close_turn, flag_turn, end_flag_turn, go_on, mode_after}
-use Rattle.html_read.proofs.WordFronts.{none_true, begins_gives, is_name_byte, begins_with_letter, start_word_bytes, tag_name_letter, tag_name_is, tag_name_not_script, tag_of_flag, flag_of_tag, flag_of_void}
-use Rattle.html_read.proofs.Fits.{script_goes}
-use Rattle.html_read.proofs.Running.{turn_at, mode_append, value_mode, text_through, name_on, end_name_on}
+use Rattle.html_read.specs.Machine.{is_word, begins_word, tag_words, start_words, tag_flag, close_transition, flag_transition, end_flag_transition, go_on, mode_after}
+use Rattle.html_read.proofs.WordLemmas.{none_true, begins_gives, is_word_byte, begins_with_letter, start_word_bytes, tag_name_letter, tag_name_is, tag_name_not_script, tag_of_flag, flag_of_tag, flag_of_void}
+use Rattle.html_read.proofs.FitsLemmas.{script_goes}
+use Rattle.html_read.proofs.ModeAfterLemmas.{turn_at, mode_append, value_mode, text_through, name_on, end_name_on}
 
 -- The bytes lead from the `<` on through modes, and the last one ends the token.
 pub record Passes (bytes : List ℕ) : Type 0 where
@@ -41,12 +42,12 @@ all_last test [] more b h = (and_parts _ _ h).0
 all_last test (x ∷ xs) more b h = all_last test xs more b ((and_parts _ _ h).1)
 
 -- No word goes on with a byte that names don't have.
-pub not_begins : (name : List ℕ) (b : ℕ) → is_name_byte b ≡ false → begins_word start_words (name ++ b ∷ []) ≡ false
+pub not_begins : (name : List ℕ) (b : ℕ) → is_word_byte b ≡ false → begins_word start_words (name ++ b ∷ []) ≡ false
 not_begins name b n = false_from_ne_true _ (λ h.
     let g : (rest : List ℕ) × (is_word start_words ((name ++ b ∷ []) ++ rest) ≡ true) = begins_gives start_words (name ++ b ∷ []) h in
-    none_true (sym n ∙ all_last is_name_byte name g.0 b (start_word_bytes ((name ++ b ∷ []) ++ g.0) g.1)))
+    none_true (sym n ∙ all_last is_word_byte name g.0 b (start_word_bytes ((name ++ b ∷ []) ++ g.0) g.1)))
 
-pub not_begins_tag : (name : List ℕ) (b : ℕ) → is_name_byte b ≡ false → begins_word tag_words (name ++ b ∷ []) ≡ false
+pub not_begins_tag : (name : List ℕ) (b : ℕ) → is_word_byte b ≡ false → begins_word tag_words (name ++ b ∷ []) ≡ false
 not_begins_tag name b n = (or_parts _ _ (not_begins name b n)).1
 
 some_name : (name : List ℕ) → begins_with_letter name ≡ true → (length name == 0) ≡ false
@@ -54,11 +55,11 @@ some_name [] h = absurd (none_true h)
 some_name (b ∷ bs) h = ne_eqb (length (b ∷ bs)) 0 (λ e. omega arith)
 
 -- After the name of a tag.
-pub name_closes : (name : List ℕ) (v : Bool) (b : ℕ) → tag_flag name ≡ Some v → is_name_byte b ≡ false → turn_at Name (60 ∷ name) b ≡ close_turn v b
+pub name_closes : (name : List ℕ) (v : Bool) (b : ℕ) → tag_flag name ≡ Some v → is_word_byte b ≡ false → turn_at Name (60 ∷ name) b ≡ close_transition v b
 name_closes name v b f n =
     let tag : IsTagName name = tag_of_flag name v f in
     cond-false _ _ _ (not_begins name b n) ∙ (cond-false _ _ _ (some_name name (tag_name_letter name tag)) ∙ (cond-false _ _ _ (tag_name_not_script name tag)
-    ∙ (ap (λ o. flag_turn o b) f ∙ cond-false _ _ _ n)))
+    ∙ (ap (λ o. flag_transition o b) f ∙ cond-false _ _ _ n)))
 
 -- A place in a tag where an attribute may begin or the tag may end.
 pub record Closed (v : Bool) (mode : Mode) (seen : List ℕ) : Type 0 where
@@ -66,8 +67,8 @@ pub record Closed (v : Bool) (mode : Mode) (seen : List ℕ) : Type 0 where
   pub ends : turn_at mode seen 62 ≡ Ends
   pub slash : v ≡ true → turn_at mode seen 47 ≡ Goes Slash
 
-slash_of : (v : Bool) → v ≡ true → close_turn v 47 ≡ Goes Slash
-slash_of v e = ap (λ w. close_turn w 47) e
+slash_of : (v : Bool) → v ≡ true → close_transition v 47 ≡ Goes Slash
+slash_of v e = ap (λ w. close_transition w 47) e
 
 name_closed : (name : List ℕ) (v : Bool) → tag_flag name ≡ Some v → Closed v Name (60 ∷ name)
 name_closed name v f = record {
@@ -87,11 +88,11 @@ hidden_closed v start seen e =
       slash = λ t. cond-true _ _ _ is ∙ slash_of v t;
     }
 
-attribute_on : (v : Bool) (start : ℕ) (seen bs : List ℕ) → list_all continues_attribute_name bs ≡ true → mode_after (Attribute v start) seen bs ≡ Some (Attribute v start)
+attribute_on : (v : Bool) (start : ℕ) (seen bs : List ℕ) → list_all is_name_byte bs ≡ true → mode_after (Attribute v start) seen bs ≡ Some (Attribute v start)
 attribute_on v start seen [] h = refl
 attribute_on v start seen (b ∷ bs) h =
-    let p : (continues_attribute_name b ≡ true) × (list_all continues_attribute_name bs ≡ true) = and_parts _ _ h in
-    ap (λ t. go_on t (λ m. mode_after m (seen ++ b ∷ []) bs)) (cond-true (continues_attribute_name b) (Goes (Attribute v start)) _ p.0) ∙ attribute_on v start (seen ++ b ∷ []) bs p.1
+    let p : (is_name_byte b ≡ true) × (list_all is_name_byte bs ≡ true) = and_parts _ _ h in
+    ap (λ t. go_on t (λ m. mode_after m (seen ++ b ∷ []) bs)) (cond-true (is_name_byte b) (Goes (Attribute v start)) _ p.0) ∙ attribute_on v start (seen ++ b ∷ []) bs p.1
 
 -- ` name`
 record InName (v : Bool) (mode : Mode) (seen name : List ℕ) : Type 0 where
@@ -187,7 +188,7 @@ end_passes name t =
       mode = EndName;
       is = refl;
       through = ap (λ t. go_on t (λ m. mode_after m (60 ∷ 47 ∷ []) name)) slash_goes ∙ end_name_on [] name (sym (tag_name_is name) ∙ t);
-      ends = cond-false _ _ _ (not_begins_tag name 62 refl) ∙ ap (λ o. end_flag_turn o 62) f.1;
+      ends = cond-false _ _ _ (not_begins_tag name 62 refl) ∙ ap (λ o. end_flag_transition o 62) f.1;
     }
 
 bang_goes : turn_at Name (60 ∷ []) 33 ≡ Goes Comment

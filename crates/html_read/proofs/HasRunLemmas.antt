@@ -17,9 +17,9 @@ use Rattle.html_read.specs.declared.place.Place.TheVariants.{Whole, Char, Entity
 use Rattle.html_read.specs.declared.place.RunFault.{RunFault}
 use Rattle.html_read.specs.declared.place.RunFault.TheVariants as faults
 use Rattle.html_read.specs.Machine.{is_word, begins_word, next_within, tail_after, start_after, starts_char, entity_after, place_after}
-use Rattle.html_read.proofs.WordFronts.{begins_gives, none_true}
-use Rattle.html_read.proofs.Utf8.{IsPart, IsCharPlace, start_gives, tail_gives, Ends, part_completes}
-use Rattle.html_read.proofs.Chars.{chars_through, on_place, chars_append, after_high, ok_same, err_ok}
+use Rattle.html_read.proofs.WordLemmas.{begins_gives, none_true}
+use Rattle.html_read.proofs.TailLemmas.{IsPart, IsCharPlace, start_gives, tail_gives, Ends, part_completes}
+use Rattle.html_read.proofs.PlaceAfterLemmas.{chars_through, on_place, chars_append, after_high, ok_same, err_ok}
 
 -- Bytes from 128 on are written as themselves.
 abbrev pub AreHigh : List ℕ → Type 0
