@@ -30,13 +30,13 @@ pub record CallsUnknown (prefix body : List ℕ) (known : SentFunctions) : Type 
   pub body_is : IsBodyOf prefix body instruction false
   pub unknown : has known (function_of instruction) ≡ false
 
--- When each refusal comes. Want of memory may always come.
-abbrev pub HasCause : List ℕ → List ℕ → SentFunctions → BodyFault → Type 0
-HasCause prefix body known BadInstruction = IsNoBody prefix body
-HasCause prefix body known UnknownFunction = CallsUnknown prefix body known
-HasCause prefix body known OutOfMemory = Unit {0}
+-- When each refusal comes. `OutOfMemory` may always come.
+abbrev pub HasBodyCause : List ℕ → List ℕ → SentFunctions → BodyFault → Type 0
+HasBodyCause prefix body known BadInstruction = IsNoBody prefix body
+HasBodyCause prefix body known UnknownFunction = CallsUnknown prefix body known
+HasBodyCause prefix body known OutOfMemory = Unit {0}
 
--- The parts of a body, each with what is none.
+-- The parts of a body, each with what is none. They are for private functions.
 
 pub record IsCallOf (prefix call : List ℕ) (function : Function) (i : Instruction) : Type 0 where
   pub calls : function_of i ≡ function

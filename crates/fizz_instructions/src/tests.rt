@@ -80,7 +80,13 @@ fn same(a: &Instruction, b: &Instruction) -> bool {
 }
 
 /// Each instruction with its prefix, its function's definition, what a page has after it, and the call.
-fn rows() -> [(Instruction, &'static str, &'static str, SentFunctions, &'static str); 7] {
+fn rows() -> [(
+    Instruction,
+    &'static str,
+    &'static str,
+    SentFunctions,
+    &'static str,
+); 7] {
     [
         (complete(0, 0), "", RC, ONLY_RC, r#"$RC("B:0","S:0")"#),
         (

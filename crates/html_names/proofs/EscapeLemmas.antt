@@ -2,7 +2,7 @@
 use Rattle.std.proofs.Common.{◌≡◌, ◌≢◌, ℕ, zero, suc, ◌<◌, false, if◌then◌else◌, List, [], ◌∷◌, ◌++◌, drop, take, length, get_or, codes, refl, sym, ◌∙◌, ap, subst, ⊎_elim, arith, append_assoc, length-append, append-nil, true}
 use Rattle.std.specs.Str.{bytes_eq}
 use Rattle.std.proofs.lemmas.Bool.{cases_eq, cases_lt, ne_eqb}
-use Rattle.std.proofs.lemmas.List.{get_or_past}
+use Rattle.std.proofs.lemmas.List.{append_cancel_left, get_or_past}
 use Rattle.std.proofs.Math.Seq.{drop-cons}
 use Rattle.fizz_text.specs.Ascii.{apostrophe, greater_than_sign, less_than_sign, quotation_mark}
 use Rattle.html_names.specs.Escape.{spelling_of, escape_of, begins_badly, IsNoMark}
@@ -71,10 +71,6 @@ pub spelling_some : (b : ℕ) → 0 < length (spelling_of b)
 spelling_some = each_byte (λ b. 0 < length (spelling_of b)) (omega arith) (omega arith) (omega arith) (omega arith) (omega arith)
     (λ b n34 n38 n39 n60 n62. rw (plain_spelling b n34 n38 n39 n60 n62) (omega arith))
 
-same_front : (xs ys zs : List ℕ) → xs ++ ys ≡ xs ++ zs → ys ≡ zs
-same_front [] ys zs e = e
-same_front (x ∷ xs) ys zs e = same_front xs ys zs (ap (drop 1) e)
-
 -- Only one text is escaped as these bytes.
 pub escaped_injective : (xs ys : List ℕ) → escape_of xs ≡ escape_of ys → xs ≡ ys
 escaped_injective [] [] e = refl
@@ -82,7 +78,7 @@ escaped_injective [] (y ∷ ys) e = absurd (omega (arith, spelling_some y, ap le
 escaped_injective (x ∷ xs) [] e = absurd (omega (arith, spelling_some x, ap length e, length-append (spelling_of x) (escape_of xs)))
 escaped_injective (x ∷ xs) (y ∷ ys) e =
     let same : x ≡ y = sym (byte_at_front_is (escape_of xs) x) ∙ (ap byte_at_front e ∙ byte_at_front_is (escape_of ys) y) in
-    let rest : escape_of xs ≡ escape_of ys = same_front (spelling_of x) (escape_of xs) (escape_of ys) (e ∙ ap (λ b. spelling_of b ++ escape_of ys) (sym same)) in
+    let rest : escape_of xs ≡ escape_of ys = append_cancel_left (spelling_of x) (escape_of xs) (escape_of ys) (e ∙ ap (λ b. spelling_of b ++ escape_of ys) (sym same)) in
     cc (same, escaped_injective xs ys rest)
 
 true_not_false : true ≡ false → ⊥

@@ -1,4 +1,5 @@
 -- Ids and their strings: each has one number, and one end.
+use Rattle.std.proofs.lemmas.List.{append_cancel_left}
 use Rattle.std.proofs.Common.{◌≡◌, ◌≢◌, ℕ, ◌<◌, ◌^◌, List, [], ◌∷◌, ◌++◌, drop, Option, Some, None, sym, ◌∙◌, ap, append-nil}
 use Rattle.std.specs.Option.{MatchOption}
 use Rattle.std.specs.Str.{IsUtf8}
@@ -8,14 +9,13 @@ use Rattle.html_names.specs.JsStrings.{js_string, BeginsNoString, BeginsWithStri
 use Rattle.html_names.proofs.JsStringsLemmas.{one_string}
 use Rattle.fizz_instructions.specs.Bodies.{id_of}
 use Rattle.fizz_instructions.specs.Reading.{AreIds, AreNoIds, BeginsNoId, BeginsWithId}
-use Rattle.fizz_instructions.proofs.Lists.{same_after}
-use Rattle.fizz_instructions.proofs.Numerals.{numeral_utf8, same_number}
+use Rattle.fizz_instructions.proofs.HexadecimalLemmas.{numeral_utf8, same_number}
 
 pub id_utf8 : (prefix mark : List ℕ) (n : ℕ) → IsUtf8 prefix → IsUtf8 mark → IsUtf8 (id_of prefix mark n)
 id_utf8 prefix mark n p m = IsUtf8-append prefix (mark ++ hexadecimal n) p (IsUtf8-append mark (hexadecimal n) m (numeral_utf8 n))
 
 pub same_id : (prefix mark : List ℕ) (m n : ℕ) → id_of prefix mark m ≡ id_of prefix mark n → m ≡ n
-same_id prefix mark m n e = same_number m n (same_after mark (hexadecimal m) (hexadecimal n) (same_after prefix (mark ++ hexadecimal m) (mark ++ hexadecimal n) e))
+same_id prefix mark m n e = same_number m n (append_cancel_left mark (hexadecimal m) (hexadecimal n) (append_cancel_left prefix (mark ++ hexadecimal m) (mark ++ hexadecimal n) e))
 
 pub one_id : (prefix mark : List ℕ) (m n : ℕ) (x y : List ℕ) → IsUtf8 prefix → IsUtf8 mark → js_string (id_of prefix mark m) ++ x ≡ js_string (id_of prefix mark n) ++ y → (m ≡ n) × (x ≡ y)
 one_id prefix mark m n x y p u e =
@@ -40,7 +40,7 @@ pub number_found : (id prefix mark rest numeral : List ℕ) (r : Option ℕ) →
     MatchOption r ((n : ℕ) → n < 2 ^ 32 → numeral ≢ hexadecimal n) (λ n. (n < 2 ^ 32) × (numeral ≡ hexadecimal n)) →
     MatchOption r ((n : ℕ) → n < 2 ^ 32 → id ≢ id_of prefix mark n) (λ n. (n < 2 ^ 32) × (id ≡ id_of prefix mark n))
 number_found id prefix mark rest numeral None first second h = λ n small e.
-    h n small (same_after mark numeral (hexadecimal n) (sym second ∙ same_after prefix rest (mark ++ hexadecimal n) (sym first ∙ e)))
+    h n small (append_cancel_left mark numeral (hexadecimal n) (sym second ∙ append_cancel_left prefix rest (mark ++ hexadecimal n) (sym first ∙ e)))
 number_found id prefix mark rest numeral (Some n) first second h = (h.0, first ∙ ap (λ xs. prefix ++ xs) (second ∙ ap (λ xs. mark ++ xs) h.1))
 
 -- Two ids

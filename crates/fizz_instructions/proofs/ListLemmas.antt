@@ -1,18 +1,10 @@
 -- Lists that begin or end alike.
-use Rattle.std.proofs.Common.{◌≡◌, ◌≢◌, ℕ, Bool, true, false, List, [], ◌++◌, ◌==◌, take, drop, length, sym, ◌∙◌, ap, arith, length-append}
+use Rattle.std.proofs.Common.{◌≡◌, ◌≢◌, ℕ, Bool, true, false, List, [], ◌++◌, ◌==◌, take, drop, length, sym, ◌∙◌, ap}
 use Rattle.std.specs.Str.{bytes_eq}
 use Rattle.std.proofs.lemmas.List.{take-append-drop}
 use Rattle.std.proofs.lemmas.Slice.Eq.{bytes_eq-Decides}
-use Rattle.std.proofs.Math.Seq.{take-append_seam, drop-append_seam}
+use Rattle.std.proofs.Math.Seq.{take-append_seam}
 use Rattle.html_names.proofs.JsStringsLemmas.{apart_bools}
-
-pub same_after : (xs ys zs : List ℕ) → xs ++ ys ≡ xs ++ zs → ys ≡ zs
-same_after xs ys zs e = sym (drop-append_seam xs ys) ∙ (ap (drop (length xs)) e ∙ drop-append_seam xs zs)
-
-pub same_before : (xs ys zs : List ℕ) → xs ++ zs ≡ ys ++ zs → xs ≡ ys
-same_before xs ys zs e =
-    let size : length xs ≡ length ys = omega (arith, ap length e, length-append xs zs, length-append ys zs) in
-    sym (take-append_seam xs zs) ∙ (ap (take (length xs)) e ∙ (ap (λ n. take n (ys ++ zs)) size ∙ take-append_seam ys zs))
 
 pub prefix_first : (bytes p rest : List ℕ) → bytes_eq (take (length p) bytes) p ≡ true → rest ≡ drop (length p) bytes → bytes ≡ p ++ rest
 prefix_first bytes p rest e is =

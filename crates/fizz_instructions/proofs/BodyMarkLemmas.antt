@@ -13,13 +13,13 @@ use Rattle.html_names.proofs.JsStringsLemmas.{string_utf8}
 use Rattle.html_names.proofs.JsStringsMarkLemmas.{string_no_mark}
 use Rattle.html_names.proofs.Utf8Lemmas.{AreAscii, utf8_ascii}
 use Rattle.fizz_instructions.specs.Bodies.{IsInstruction, arguments_of, body_of, boundary_id, call_of, digest_argument, function_of, placeholder_id, script_of, segment_id}
-use Rattle.fizz_instructions.specs.Functions.{name_of, text_of, complete_boundary_text, complete_segment_text, client_render_text}
+use Rattle.fizz_instructions.specs.Functions.{name_of, definition_of, complete_boundary_definition, complete_segment_definition, client_render_definition}
 use Rattle.fizz_instructions.specs.declared.functions.Function.{Function}
 use Rattle.fizz_instructions.specs.declared.functions.Function.TheVariants.{CompleteBoundary, CompleteSegment, ClientRenderBoundary}
 use Rattle.fizz_instructions.specs.declared.instruction.Instruction.{Instruction}
 use Rattle.fizz_instructions.specs.declared.instruction.Instruction.TheVariants.{Complete, Segment, ClientRender}
-use Rattle.fizz_instructions.proofs.Arguments.{b_utf8, s_utf8, p_utf8}
-use Rattle.fizz_instructions.proofs.Ids.{id_utf8}
+use Rattle.fizz_instructions.proofs.ArgumentsLemmas.{b_utf8, s_utf8, p_utf8}
+use Rattle.fizz_instructions.proofs.IdsLemmas.{id_utf8}
 
 abbrev HasNoMark : List ℕ → Type 0
 HasNoMark xs = (k : ℕ) → get_or xs k 0 ≢ 60
@@ -53,8 +53,8 @@ all_no_mark (b ∷ bs) h (suc k) e =
     let both : (is_plain b ≡ true) × (list_all is_plain bs ≡ true) = and_both (is_plain b) (list_all is_plain bs) h in
     all_no_mark bs both.1 k e
 
-text_plain : (f : Function) → list_all is_plain (text_of f) ≡ true
-unfolding complete_boundary_text complete_segment_text client_render_text
+text_plain : (f : Function) → list_all is_plain (definition_of f) ≡ true
+unfolding complete_boundary_definition complete_segment_definition client_render_definition
 text_plain CompleteBoundary = refl
 text_plain CompleteSegment = refl
 text_plain ClientRenderBoundary = refl
@@ -86,7 +86,7 @@ call_no_mark prefix i =
     (no_mark-append (40 ∷ []) (args ++ 41 ∷ []) (all_no_mark (40 ∷ []) refl) (no_mark-append args (41 ∷ []) (arguments_no_mark prefix i) (all_no_mark (41 ∷ []) refl)))
 
 pub body_no_mark : (prefix : List ℕ) (i : Instruction) (defines : Bool) → HasNoMark (body_of prefix i defines)
-body_no_mark prefix i true = no_mark-append (text_of (function_of i)) (call_of prefix i) (all_no_mark (text_of (function_of i)) (text_plain (function_of i))) (call_no_mark prefix i)
+body_no_mark prefix i true = no_mark-append (definition_of (function_of i)) (call_of prefix i) (all_no_mark (definition_of (function_of i)) (text_plain (function_of i))) (call_no_mark prefix i)
 body_no_mark prefix i false = call_no_mark prefix i
 
 pub body_no_end : (prefix : List ℕ) (i : Instruction) (defines : Bool) (before after : List ℕ) → body_of prefix i defines ≢ before ++ (codes "</script>" ++ after)
@@ -119,7 +119,7 @@ call_utf8 prefix i p v =
     (IsUtf8-append (40 ∷ []) (args ++ 41 ∷ []) (plain_utf8 (40 ∷ []) refl) (IsUtf8-append args (41 ∷ []) (arguments_utf8 prefix i p v) (plain_utf8 (41 ∷ []) refl)))
 
 body_utf8 : (prefix : List ℕ) (i : Instruction) (defines : Bool) → IsUtf8 prefix → IsInstruction i → IsUtf8 (body_of prefix i defines)
-body_utf8 prefix i true p v = IsUtf8-append (text_of (function_of i)) (call_of prefix i) (plain_utf8 (text_of (function_of i)) (text_plain (function_of i))) (call_utf8 prefix i p v)
+body_utf8 prefix i true p v = IsUtf8-append (definition_of (function_of i)) (call_of prefix i) (plain_utf8 (definition_of (function_of i)) (text_plain (function_of i))) (call_utf8 prefix i p v)
 body_utf8 prefix i false p v = call_utf8 prefix i p v
 
 tag_ascii : AreAscii (codes "<script>")

@@ -10,7 +10,7 @@ use Rattle.fizz_instructions.specs.Reading.{AreArgumentsOf, AreIds, AreNoArgumen
 use Rattle.fizz_instructions.specs.declared.functions.Function.TheVariants.{CompleteBoundary, CompleteSegment, ClientRenderBoundary}
 use Rattle.fizz_instructions.specs.declared.instruction.Instruction.{Instruction}
 use Rattle.fizz_instructions.specs.declared.instruction.Instruction.TheVariants.{Complete, Segment, ClientRender}
-use Rattle.fizz_instructions.proofs.Ids.{one_id, same_ids}
+use Rattle.fizz_instructions.proofs.IdsLemmas.{one_id, same_ids}
 use Rattle.std.proofs.Common.{codes}
 
 pub b_utf8 : IsUtf8 (codes "B:")
