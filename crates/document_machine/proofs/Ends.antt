@@ -76,7 +76,7 @@ ends_text prefix bytes reader built end t o s w = record {
     rest = reader.rest;
     last = t ∷ [];
     split = w.read.split;
-    text = (o.is_tok, o.text, o.spelled);
+    text = (o.is_token, o.text, o.spelled);
     steps = steps_push prefix at_first built end w.toks t w.steps s;
   };
   no_rest = λ e. absurd (some_tok t [] e);
@@ -147,7 +147,7 @@ text_here reader (tok.Start name attributes from) f is e r n = absurd (true≢fa
 text_here reader (tok.End name from) f is e r n = absurd (true≢false (sym e))
 text_here reader (tok.Void name attributes from) f is e r n = absurd (true≢false (sym e))
 text_here reader (tok.Text text from) f is e r n =
-    n (tok.Text text reader.place) (record { sound = f; text = refl; is_tok = is; place_is = refl; spelled = r })
+    n (tok.Text text reader.place) (record { sound = f; text = refl; is_token = is; place_is = refl; spelled = r })
 text_here reader (tok.Comment which from) f is e r n = absurd (true≢false (sym e))
 text_here reader (tok.Script body from) f is e r n = absurd (true≢false (sym e))
 

@@ -19,7 +19,7 @@ nothing_true e = true≢false (sym e)
 one_token : (bytes : List ℕ) (t : Token) → IsToken t → bytes ≡ spelling t → Tokenizes bytes (moved 0 t ∷ [])
 one_token bytes t h e =
     let m : IsMoved 0 t = is_moved 0 t in
-    record { spelled = e ∙ (sym m.spelled ∙ sym (append-nil (spelling (moved 0 t)))); tokens = (m.is_tok h, m.place_is, tt, tt) }
+    record { spelled = e ∙ (sym m.spelled ∙ sym (append-nil (spelling (moved 0 t)))); tokens = (m.is_token h, m.place_is, tt, tt) }
 
 pub no_list : (t : Token) (ts : List Token) → t ∷ ts ≡ [] → ⊥
 no_list t ts e = cc
@@ -61,7 +61,7 @@ pub record EndsInText (place : ℕ) (after : Bool) (toks : List Token) : Type 0 
   pub last : Token
   pub are : toks ≡ front ++ last ∷ []
   pub tokens : AreTokensFrom place after front
-  pub is_tok : IsToken last
+  pub is_token : IsToken last
   pub text : is_text last ≡ true
   pub before : ends_in_text after front ≡ false
 
@@ -71,7 +71,7 @@ no_text_before false h = refl
 
 ends_in_one : (place : ℕ) (after : Bool) (t : Token) (ts : List Token) → AreTokensFrom place after (t ∷ ts) → ends_in_text after (t ∷ ts) ≡ true → EndsInText place after (t ∷ ts)
 ends_in_one place after t [] h e =
-    record { front = []; last = t; are = refl; tokens = tt; is_tok = h.0; text = e; before = no_text_before after (subst (MayFollow after) e h.2) }
+    record { front = []; last = t; are = refl; tokens = tt; is_token = h.0; text = e; before = no_text_before after (subst (MayFollow after) e h.2) }
 ends_in_one place after t (u ∷ us) h e =
     let later : EndsInText (place + length (spelling t)) (is_text t) (u ∷ us) = ends_in_one (place + length (spelling t)) (is_text t) u us h.3 e in
     record {
@@ -79,7 +79,7 @@ ends_in_one place after t (u ∷ us) h e =
       last = later.last;
       are = ap (λ x. t ∷ x) later.are;
       tokens = (h.0, h.1, h.2, later.tokens);
-      is_tok = later.is_tok;
+      is_token = later.is_token;
       text = later.text;
       before = later.before;
     }
@@ -106,10 +106,10 @@ tokens_run laws prefix start end toks h s =
       split = record {
         whole = ap spellings l.are ∙ (flat_map-append spelling l.front (l.last ∷ []) ∙ ap (λ x. spellings l.front ++ x) (append-nil (spelling l.last)));
         tokens = l.tokens;
-        begun = inr ([], l.last, l.is_tok, append-nil (spelling l.last), inl l.text);
+        begun = inr ([], l.last, l.is_token, append-nil (spelling l.last), inl l.text);
         ended = λ t. absurd (nothing_true (sym l.before ∙ t));
       };
-      text = (l.is_tok, l.text, refl);
+      text = (l.is_token, l.text, refl);
       steps = subst (λ x. Steps prefix start x end) l.are s;
     } in
     (run, no_last l.last (spelling l.last)) in

@@ -250,30 +250,10 @@ after_front body u = (cut (codes "function App() { return") 32 body (omega arith
 
 -- it may be printed
 
-below : (a b : ℕ) → nat_lt a (suc b) ≡ nat_le a b
-below a b = grind (arith, nat_tests)
-
-letters : (b : ℕ) → names.is_letter b ≡ read.is_letter b
-letters b = rw (below b 90, below b 122) refl
-
-three : (x y z : Bool) → (x || y || z) ≡ (x || (y || z))
-three true y z = refl
-three false y z = refl
-
-name_bytes : (b : ℕ) → names.is_name_byte b ≡ read.continues_attribute_name b
-name_bytes b = rw (letters b, below b 57) (three (read.is_letter b) (nat_le 48 b && nat_le b 57) (b == 45))
-
-all_name_bytes : (bs : List ℕ) → list_all names.is_name_byte bs ≡ true → list_all read.continues_attribute_name bs ≡ true
-all_name_bytes [] h = refl
-all_name_bytes (b ∷ bs) h =
-    let parts = both (names.is_name_byte b) (list_all names.is_name_byte bs) h in
-    rw (← name_bytes b, parts.0) (all_name_bytes bs parts.1)
-
 is_attribute_name : (name : List ℕ) → names.is_plain_name name ≡ true → read.IsAttributeName name
 is_attribute_name [] h = absurd (opposite false h refl)
 is_attribute_name (b ∷ bs) h =
-    let parts = both (names.is_letter b) (list_all names.is_name_byte bs) h in
-    (sym (letters b) ∙ parts.0, all_name_bytes bs parts.1)
+    both (names.is_letter b) (list_all names.is_name_byte bs) h
 
 -- each attribute's printed name is a letter followed by letters, digits and `-`
 abbrev pub NameLaw : Type 0
