@@ -129,11 +129,11 @@ pub record IsSpelling (text : Bool) (bytes : List ℕ) (from : ℕ) : Type 0 whe
   pub place_is : place_of tok ≡ from
 
 -- What a byte does is right.
-abbrev pub IsGoodTurn : List ℕ → ℕ → Transition → Type 0
-IsGoodTurn seen b (Goes mode) = Fits mode (seen ++ b ∷ [])
-IsGoodTurn seen b Ends = (from : ℕ) → IsSpelling false (seen ++ b ∷ []) from
-IsGoodTurn seen b Cuts = (b ≡ 60) × ((from : ℕ) → IsSpelling true seen from)
-IsGoodTurn seen b (Fails kind) = Unit {0}
+abbrev pub IsGoodTransition : List ℕ → ℕ → Transition → Type 0
+IsGoodTransition seen b (Goes mode) = Fits mode (seen ++ b ∷ [])
+IsGoodTransition seen b Ends = (from : ℕ) → IsSpelling false (seen ++ b ∷ []) from
+IsGoodTransition seen b Cuts = (b ≡ 60) × ((from : ℕ) → IsSpelling true seen from)
+IsGoodTransition seen b (Fails kind) = Unit {0}
 
 ok_err : (p : Place) → ◌≡◌ {A = Result Place RunFault} (Ok p) (Err faults.Byte) → ⊥
 ok_err p e = cc
@@ -180,11 +180,11 @@ whole_text run from h n = record {
 }
 
 text_good : (p : Place) (seen : List ℕ) (b : ℕ) → HasRun 0 p seen → (r : Result Place RunFault) → place_after p (seen ++ b ∷ []) b ≡ r
-    → IsGoodTurn seen b (text_transition (length (seen ++ b ∷ [])) b r)
+    → IsGoodTransition seen b (text_transition (length (seen ++ b ∷ [])) b r)
 text_good p seen b h (Ok q) e = place_keeps [] seen p q b h e
 text_good p seen b h (Err faults.Byte) e =
-    cond_both (b == 60) _ _ (IsGoodTurn seen b) (λ is60.
-    cond_both (length (seen ++ b ∷ []) == 1) _ _ (IsGoodTurn seen b) (λ one.
+    cond_both (b == 60) _ _ (IsGoodTransition seen b) (λ is60.
+    cond_both (length (seen ++ b ∷ []) == 1) _ _ (IsGoodTransition seen b) (λ one.
     let len : length (seen ++ b ∷ []) ≡ 1 = eqb-true _ 1 one in
     let none : seen ≡ [] = nil_from_length seen (omega (arith, length-append seen (b ∷ []))) in
     record { name = []; begins = refl; is = (λ i. none i ++ eqb-true b 60 is60 i ∷ []) }) (λ more.
@@ -208,24 +208,24 @@ more_attributes v front a h fine = record {
 }
 
 -- After a whole name or an attribute.
-close_good : (v : Bool) (seen : List ℕ) (b : ℕ) → HasTag v seen → IsGoodTurn seen b (close_transition v b)
+close_good : (v : Bool) (seen : List ℕ) (b : ℕ) → HasTag v seen → IsGoodTransition seen b (close_transition v b)
 close_good v seen b h =
-    cond_both (b == 32) _ _ (IsGoodTurn seen b) (λ e. record { front = seen; tag = h; is = ap (λ x. seen ++ x ∷ []) (eqb-true b 32 e) }) (λ n32.
-    cond_both (b == 62) _ _ (IsGoodTurn seen b) (λ e from. record {
+    cond_both (b == 32) _ _ (IsGoodTransition seen b) (λ e. record { front = seen; tag = h; is = ap (λ x. seen ++ x ∷ []) (eqb-true b 32 e) }) (λ n32.
+    cond_both (b == 62) _ _ (IsGoodTransition seen b) (λ e from. record {
       tok = toks.Start h.name h.attributes from;
       is_token = (tag_of_flag h.name v h.flag, h.are);
       spelled = (λ i. h.is i ++ eqb-true b 62 e i ∷ []);
       text_is = refl;
       place_is = refl;
     }) (λ n62.
-    cond_both (b == 47 && v) _ _ (IsGoodTurn seen b) (λ e.
+    cond_both (b == 47 && v) _ _ (IsGoodTransition seen b) (λ e.
     let p : ((b == 47) ≡ true) × (v ≡ true) = and_parts _ _ e in
     record { front = seen; tag = subst (λ w. HasTag w seen) p.1 h; is = ap (λ x. seen ++ x ∷ []) (eqb-true b 47 p.0) }) (λ n. tt)))
 
-flag_good : (name : List ℕ) (b : ℕ) (o : Option Bool) → tag_flag name ≡ o → IsGoodTurn (60 ∷ name) b (flag_transition o b)
+flag_good : (name : List ℕ) (b : ℕ) (o : Option Bool) → tag_flag name ≡ o → IsGoodTransition (60 ∷ name) b (flag_transition o b)
 flag_good name b None e = tt
 flag_good name b (Some v) e =
-    cond_both (is_letter b || is_digit b) _ _ (IsGoodTurn (60 ∷ name) b) (λ l. tt) (λ n.
+    cond_both (is_letter b || is_digit b) _ _ (IsGoodTransition (60 ∷ name) b) (λ l. tt) (λ n.
     close_good v (60 ∷ name) b (record { name = name; attributes = []; flag = e; are = tt; is = ap (λ x. 60 ∷ x) (sym (append-nil name)) }))
 
 pub no_script_end : IsScriptBody []
@@ -237,25 +237,25 @@ begins_nothing : begins_word tag_words [] ≡ true
 unfolding tag_words element_rows
 begins_nothing = refl
 
-after_good : (name : List ℕ) (b : ℕ) → IsGoodTurn (60 ∷ name) b (after_name name b)
+after_good : (name : List ℕ) (b : ℕ) → IsGoodTransition (60 ∷ name) b (after_name name b)
 after_good name b =
-    cond_both (length name == 0) _ _ (IsGoodTurn (60 ∷ name) b) (λ z.
+    cond_both (length name == 0) _ _ (IsGoodTransition (60 ∷ name) b) (λ z.
     let none : name ≡ [] = nil_from_length name (eqb-true _ 0 z) in
-    cond_both (b == 47) _ _ (IsGoodTurn (60 ∷ name) b) (λ e. record { name = []; begins = begins_nothing; is = (λ i. 60 ∷ none i ++ eqb-true b 47 e i ∷ []) }) (λ n47.
-    cond_both (b == 33) _ _ (IsGoodTurn (60 ∷ name) b) (λ e. record { word = []; begins = refl; open_still = refl; is = (λ i. 60 ∷ none i ++ eqb-true b 33 e i ∷ []) }) (λ n. tt))) (λ some.
-    cond_both (bytes_eq name (codes "script")) _ _ (IsGoodTurn (60 ∷ name) b) (λ s.
-    cond_both (b == 62) _ _ (IsGoodTurn (60 ∷ name) b) (λ e.
+    cond_both (b == 47) _ _ (IsGoodTransition (60 ∷ name) b) (λ e. record { name = []; begins = begins_nothing; is = (λ i. 60 ∷ none i ++ eqb-true b 47 e i ∷ []) }) (λ n47.
+    cond_both (b == 33) _ _ (IsGoodTransition (60 ∷ name) b) (λ e. record { word = []; begins = refl; open_still = refl; is = (λ i. 60 ∷ none i ++ eqb-true b 33 e i ∷ []) }) (λ n. tt))) (λ some.
+    cond_both (bytes_eq name (codes "script")) _ _ (IsGoodTransition (60 ∷ name) b) (λ s.
+    cond_both (b == 62) _ _ (IsGoodTransition (60 ∷ name) b) (λ e.
     record { body = []; fine = no_script_end; is = (λ i. 60 ∷ (bytes_eq-Decides name (codes "script")).0 s i ++ eqb-true b 62 e i ∷ []) }) (λ n. tt)) (λ n.
     flag_good name b (tag_flag name) refl))
 
-name_good : (name : List ℕ) (b : ℕ) → IsGoodTurn (60 ∷ name) b (name_transition name (name ++ b ∷ []) b)
+name_good : (name : List ℕ) (b : ℕ) → IsGoodTransition (60 ∷ name) b (name_transition name (name ++ b ∷ []) b)
 name_good name b =
-    cond_both (begins_word start_words (name ++ b ∷ [])) _ _ (IsGoodTurn (60 ∷ name) b) (λ g. record { name = name ++ b ∷ []; begins = g; is = refl }) (λ n. after_good name b)
+    cond_both (begins_word start_words (name ++ b ∷ [])) _ _ (IsGoodTransition (60 ∷ name) b) (λ g. record { name = name ++ b ∷ []; begins = g; is = refl }) (λ n. after_good name b)
 
-end_flag_good : (name : List ℕ) (b : ℕ) (o : Option Bool) → tag_flag name ≡ o → IsGoodTurn (60 ∷ 47 ∷ name) b (end_flag_transition o b)
+end_flag_good : (name : List ℕ) (b : ℕ) (o : Option Bool) → tag_flag name ≡ o → IsGoodTransition (60 ∷ 47 ∷ name) b (end_flag_transition o b)
 end_flag_good name b None e = tt
 end_flag_good name b (Some v) e =
-    cond_both (b == 62) _ _ (IsGoodTurn (60 ∷ 47 ∷ name) b) (λ s from. record {
+    cond_both (b == 62) _ _ (IsGoodTransition (60 ∷ 47 ∷ name) b) (λ s from. record {
       tok = toks.End name from;
       is_token = tag_of_flag name v e;
       spelled = (λ i. 60 ∷ 47 ∷ name ++ eqb-true b 62 s i ∷ []);
@@ -263,9 +263,9 @@ end_flag_good name b (Some v) e =
       place_is = refl;
     }) (λ n. tt)
 
-end_name_good : (name : List ℕ) (b : ℕ) → IsGoodTurn (60 ∷ 47 ∷ name) b (end_name_transition name (name ++ b ∷ []) b)
+end_name_good : (name : List ℕ) (b : ℕ) → IsGoodTransition (60 ∷ 47 ∷ name) b (end_name_transition name (name ++ b ∷ []) b)
 end_name_good name b =
-    cond_both (begins_word tag_words (name ++ b ∷ [])) _ _ (IsGoodTurn (60 ∷ 47 ∷ name) b) (λ g. record { name = name ++ b ∷ []; begins = g; is = refl }) (λ n.
+    cond_both (begins_word tag_words (name ++ b ∷ [])) _ _ (IsGoodTransition (60 ∷ 47 ∷ name) b) (λ g. record { name = name ++ b ∷ []; begins = g; is = refl }) (λ n.
     end_flag_good name b (tag_flag name) refl)
 
 -- the five comments
@@ -285,12 +285,12 @@ comment_word word h1 =
     ⊎_elim (said_at word kind.Space) (λ h6. absurd (none_true h6))
     (or_cases _ _ h5)) (or_cases _ _ h4)) (or_cases _ _ h3)) (or_cases _ _ h2)) (or_cases _ _ h1)
 
-comment_good : (word : List ℕ) (b : ℕ) → IsGoodTurn (60 ∷ 33 ∷ word) b (comment_transition (word ++ b ∷ []))
+comment_good : (word : List ℕ) (b : ℕ) → IsGoodTransition (60 ∷ 33 ∷ word) b (comment_transition (word ++ b ∷ []))
 comment_good word b =
-    cond_both (is_word comment_words (word ++ b ∷ [])) _ _ (IsGoodTurn (60 ∷ 33 ∷ word) b) (λ w from.
+    cond_both (is_word comment_words (word ++ b ∷ [])) _ _ (IsGoodTransition (60 ∷ 33 ∷ word) b) (λ w from.
     let s : IsSaid (word ++ b ∷ []) = comment_word (word ++ b ∷ []) w in
     record { tok = toks.Comment s.which from; is_token = tt; spelled = ap (λ x. 60 ∷ 33 ∷ x) s.is; text_is = refl; place_is = refl }) (λ n.
-    cond_both (begins_word comment_words (word ++ b ∷ [])) _ _ (IsGoodTurn (60 ∷ 33 ∷ word) b) (λ g. record { word = word ++ b ∷ []; begins = g; open_still = n; is = refl }) (λ m. tt))
+    cond_both (begins_word comment_words (word ++ b ∷ [])) _ _ (IsGoodTransition (60 ∷ 33 ∷ word) b) (λ g. record { word = word ++ b ∷ []; begins = g; open_still = n; is = refl }) (λ m. tt))
 
 -- A list is empty or has a last element.
 snoc : (xs : List ℕ) → (xs ≡ []) ⊎ ((ys : List ℕ) × (y : ℕ) × (xs ≡ ys ++ y ∷ []))
@@ -315,17 +315,17 @@ script_goes body b fine n before after e =
     e ∙ (ap (λ x. before ++ (script_end ++ x)) s.2 ∙ (ap (λ x. before ++ x) (sym (append_assoc script_end s.0 (s.1 ∷ []))) ∙ sym (append_assoc before (script_end ++ s.0) (s.1 ∷ [])))) in
     fine before s.0 ((same_from_push body _ b s.1 inner).0)) (snoc after)
 
-script_good : (body : List ℕ) (b : ℕ) → IsScriptBody body → IsGoodTurn (codes "<script>" ++ body) b (script_transition (body ++ b ∷ []))
+script_good : (body : List ℕ) (b : ℕ) → IsScriptBody body → IsGoodTransition (codes "<script>" ++ body) b (script_transition (body ++ b ∷ []))
 script_good body b fine =
-    cond_both (ends_with nat_eq (body ++ b ∷ []) script_end) _ _ (IsGoodTurn (codes "<script>" ++ body) b) (λ w from.
+    cond_both (ends_with nat_eq (body ++ b ∷ []) script_end) _ _ (IsGoodTransition (codes "<script>" ++ body) b) (λ w from.
     let inner : List ℕ = take (length (body ++ b ∷ []) - length script_end) (body ++ b ∷ []) in
     let cut : body ++ b ∷ [] ≡ inner ++ script_end = (ends_is Decides-eqb (body ++ b ∷ []) script_end _ refl).0 w in
     record { tok = toks.Script inner from; is_token = script_ends body b inner fine (sym cut); spelled = ap (λ x. codes "<script>" ++ x) cut; text_is = refl; place_is = refl }) (λ n.
     record { body = body ++ b ∷ []; fine = script_goes body b fine n; is = refl })
 
-space_good : (v : Bool) (front : List ℕ) (b : ℕ) → HasTag v front → IsGoodTurn (front ++ 32 ∷ []) b (space_transition v (length (front ++ 32 ∷ [] ++ b ∷ [])) b)
+space_good : (v : Bool) (front : List ℕ) (b : ℕ) → HasTag v front → IsGoodTransition (front ++ 32 ∷ []) b (space_transition v (length (front ++ 32 ∷ [] ++ b ∷ [])) b)
 space_good v front b h =
-    cond_both (is_letter b) _ _ (IsGoodTurn (front ++ 32 ∷ []) b) (λ l. record {
+    cond_both (is_letter b) _ _ (IsGoodTransition (front ++ 32 ∷ []) b) (λ l. record {
       front = front;
       name = b ∷ [];
       tag = h;
@@ -343,11 +343,11 @@ name_push [] b h t = absurd h
 name_push (x ∷ xs) b h t = (h.0, all_push is_name_byte xs b h.1 t)
 
 attribute_good : (v : Bool) (start : ℕ) (front name : List ℕ) (b : ℕ) → HasTag v front → IsAttributeName name → start ≡ length front + 1
-    → IsGoodTurn (front ++ 32 ∷ name) b (attribute_transition v start (drop start (front ++ 32 ∷ name)) b)
+    → IsGoodTransition (front ++ 32 ∷ name) b (attribute_transition v start (drop start (front ++ 32 ∷ name)) b)
 attribute_good v start front name b h named starts =
     let cut : drop start (front ++ 32 ∷ name) ≡ name =
     ap (drop start) (sym (append_assoc front (32 ∷ []) name)) ∙ drop_at (front ++ 32 ∷ []) name start (omega (arith, length-append front (32 ∷ []))) in
-    cond_both (is_name_byte b) _ _ (IsGoodTurn (front ++ 32 ∷ name) b) (λ c. record {
+    cond_both (is_name_byte b) _ _ (IsGoodTransition (front ++ 32 ∷ name) b) (λ c. record {
       front = front;
       name = name ++ b ∷ [];
       tag = h;
@@ -355,21 +355,21 @@ attribute_good v start front name b h named starts =
       starts = starts;
       is = append_assoc front (32 ∷ name) (b ∷ []);
     }) (λ n.
-    cond_both (b == 61) _ _ (IsGoodTurn (front ++ 32 ∷ name) b) (λ e. record {
+    cond_both (b == 61) _ _ (IsGoodTransition (front ++ 32 ∷ name) b) (λ e. record {
       front = front;
       name = name;
       tag = h;
       named = named;
       is = append_assoc front (32 ∷ name) (b ∷ []) ∙ ap (λ x. front ++ (32 ∷ name ++ x ∷ [])) (eqb-true b 61 e);
     }) (λ n61.
-    cond_both (bytes_eq (drop start (front ++ 32 ∷ name)) (codes "hidden")) _ _ (IsGoodTurn (front ++ 32 ∷ name) b) (λ e.
+    cond_both (bytes_eq (drop start (front ++ 32 ∷ name)) (codes "hidden")) _ _ (IsGoodTransition (front ++ 32 ∷ name) b) (λ e.
     let hidden : name ≡ codes "hidden" = sym cut ∙ (bytes_eq-Decides _ (codes "hidden")).0 e in
     let a : Attr = record { name = name; value = None } in
     close_good v (front ++ 32 ∷ name) b (subst (λ x. HasTag v (front ++ 32 ∷ x)) (append-nil name) (more_attributes v front a h (named, hidden)))) (λ m. tt)))
 
-equals_good : (v : Bool) (front name : List ℕ) (b : ℕ) → HasTag v front → IsAttributeName name → IsGoodTurn (front ++ (32 ∷ name ++ 61 ∷ [])) b (equals_transition v b)
+equals_good : (v : Bool) (front name : List ℕ) (b : ℕ) → HasTag v front → IsAttributeName name → IsGoodTransition (front ++ (32 ∷ name ++ 61 ∷ [])) b (equals_transition v b)
 equals_good v front name b h named =
-    cond_both (b == 34) _ _ (IsGoodTurn (front ++ (32 ∷ name ++ 61 ∷ [])) b) (λ e. record {
+    cond_both (b == 34) _ _ (IsGoodTransition (front ++ (32 ∷ name ++ 61 ∷ [])) b) (λ e. record {
       front = front;
       name = name;
       run = [];
@@ -380,7 +380,7 @@ equals_good v front name b h named =
     }) (λ n. tt)
 
 value_good : (v : Bool) (p : Place) (front name run : List ℕ) (b : ℕ) → HasTag v front → IsAttributeName name → HasRun (length (opening front name)) p run
-    → (r : Result Place RunFault) → place_after p (opening front name ++ run ++ b ∷ []) b ≡ r → IsGoodTurn (opening front name ++ run) b (value_transition v b r)
+    → (r : Result Place RunFault) → place_after p (opening front name ++ run ++ b ∷ []) b ≡ r → IsGoodTransition (opening front name ++ run) b (value_transition v b r)
 value_good v p front name run b h named has (Ok q) e = record {
   front = front;
   name = name;
@@ -391,7 +391,7 @@ value_good v p front name run b h named has (Ok q) e = record {
   is = append_assoc (opening front name) run (b ∷ []);
 }
 value_good v p front name run b h named has (Err faults.Byte) e =
-    cond_both (b == 34) _ _ (IsGoodTurn (opening front name ++ run) b) (λ q.
+    cond_both (b == 34) _ _ (IsGoodTransition (opening front name ++ run) b) (λ q.
     let w : HasWhole run = byte_is_whole (length (opening front name)) p run _ b has e in
     record {
       front = front;
@@ -404,9 +404,9 @@ value_good v p front name run b h named has (Err faults.Byte) e =
 value_good v p front name run b h named has (Err faults.Entity) e = tt
 value_good v p front name run b h named has (Err faults.Utf8) e = tt
 
-slash_good : (front : List ℕ) (b : ℕ) → HasTag true front → IsGoodTurn (front ++ 47 ∷ []) b (slash_transition b)
+slash_good : (front : List ℕ) (b : ℕ) → HasTag true front → IsGoodTransition (front ++ 47 ∷ []) b (slash_transition b)
 slash_good front b h =
-    cond_both (b == 62) _ _ (IsGoodTurn (front ++ 47 ∷ []) b) (λ e from. record {
+    cond_both (b == 62) _ _ (IsGoodTransition (front ++ 47 ∷ []) b) (λ e from. record {
       tok = toks.Void h.name h.attributes from;
       is_token = (void_of_flag h.name h.flag, h.are);
       spelled = append_assoc front (47 ∷ []) (b ∷ []) ∙ (λ i. h.is i ++ 47 ∷ eqb-true b 62 e i ∷ []);
@@ -415,18 +415,18 @@ slash_good front b h =
     }) (λ n. tt)
 
 -- Whatever a byte does in a mode that fits is right.
-pub turn_good : (mode : Mode) (seen : List ℕ) (b : ℕ) → Fits mode seen → IsGoodTurn seen b (transition_of mode seen (seen ++ b ∷ []) b)
-turn_good (Text p) seen b h = text_good p seen b h (place_after p (seen ++ b ∷ []) b) refl
-turn_good Name seen b h = subst (λ s. IsGoodTurn s b (transition_of Name s (s ++ b ∷ []) b)) (sym h.is) (name_good h.name b)
-turn_good EndName seen b h = subst (λ s. IsGoodTurn s b (transition_of EndName s (s ++ b ∷ []) b)) (sym h.is) (end_name_good h.name b)
-turn_good Comment seen b h = subst (λ s. IsGoodTurn s b (transition_of Comment s (s ++ b ∷ []) b)) (sym h.is) (comment_good h.word b)
-turn_good Script seen b h = subst (λ s. IsGoodTurn s b (transition_of Script s (s ++ b ∷ []) b)) (sym h.is) (script_good h.body b h.fine)
-turn_good (Space v) seen b h = subst (λ s. IsGoodTurn s b (transition_of (Space v) s (s ++ b ∷ []) b)) (sym h.is) (space_good v h.front b h.tag)
-turn_good (Attribute v start) seen b h = subst (λ s. IsGoodTurn s b (transition_of (Attribute v start) s (s ++ b ∷ []) b)) (sym h.is) (attribute_good v start h.front h.name b h.tag h.named h.starts)
-turn_good (Equals v) seen b h = subst (λ s. IsGoodTurn s b (transition_of (Equals v) s (s ++ b ∷ []) b)) (sym h.is) (equals_good v h.front h.name b h.tag h.named)
-turn_good (Value v p) seen b h =
-    subst (λ s. IsGoodTurn s b (transition_of (Value v p) s (s ++ b ∷ []) b)) (sym h.is)
+pub transition_good : (mode : Mode) (seen : List ℕ) (b : ℕ) → Fits mode seen → IsGoodTransition seen b (transition_of mode seen (seen ++ b ∷ []) b)
+transition_good (Text p) seen b h = text_good p seen b h (place_after p (seen ++ b ∷ []) b) refl
+transition_good Name seen b h = subst (λ s. IsGoodTransition s b (transition_of Name s (s ++ b ∷ []) b)) (sym h.is) (name_good h.name b)
+transition_good EndName seen b h = subst (λ s. IsGoodTransition s b (transition_of EndName s (s ++ b ∷ []) b)) (sym h.is) (end_name_good h.name b)
+transition_good Comment seen b h = subst (λ s. IsGoodTransition s b (transition_of Comment s (s ++ b ∷ []) b)) (sym h.is) (comment_good h.word b)
+transition_good Script seen b h = subst (λ s. IsGoodTransition s b (transition_of Script s (s ++ b ∷ []) b)) (sym h.is) (script_good h.body b h.fine)
+transition_good (Space v) seen b h = subst (λ s. IsGoodTransition s b (transition_of (Space v) s (s ++ b ∷ []) b)) (sym h.is) (space_good v h.front b h.tag)
+transition_good (Attribute v start) seen b h = subst (λ s. IsGoodTransition s b (transition_of (Attribute v start) s (s ++ b ∷ []) b)) (sym h.is) (attribute_good v start h.front h.name b h.tag h.named h.starts)
+transition_good (Equals v) seen b h = subst (λ s. IsGoodTransition s b (transition_of (Equals v) s (s ++ b ∷ []) b)) (sym h.is) (equals_good v h.front h.name b h.tag h.named)
+transition_good (Value v p) seen b h =
+    subst (λ s. IsGoodTransition s b (transition_of (Value v p) s (s ++ b ∷ []) b)) (sym h.is)
     (value_good v p h.front h.name h.run b h.tag h.named h.has (place_after p (opening h.front h.name ++ h.run ++ b ∷ []) b) refl)
-turn_good (Close v) seen b h =
-    subst (λ s. IsGoodTurn s b (transition_of (Close v) s (s ++ b ∷ []) b)) (sym h.is) (close_good v (h.front ++ attribute_spelling h.attribute) b (more_attributes v h.front h.attribute h.tag h.fine))
-turn_good Slash seen b h = subst (λ s. IsGoodTurn s b (transition_of Slash s (s ++ b ∷ []) b)) (sym h.is) (slash_good h.front b h.tag)
+transition_good (Close v) seen b h =
+    subst (λ s. IsGoodTransition s b (transition_of (Close v) s (s ++ b ∷ []) b)) (sym h.is) (close_good v (h.front ++ attribute_spelling h.attribute) b (more_attributes v h.front h.attribute h.tag h.fine))
+transition_good Slash seen b h = subst (λ s. IsGoodTransition s b (transition_of Slash s (s ++ b ∷ []) b)) (sym h.is) (slash_good h.front b h.tag)

@@ -400,8 +400,8 @@ after_kind name b w =
     cond_both (b == 62) _ _ (KindIs (60 ∷ name) b) (λ e. tt) (λ e. name_kind name b w (λ t n. none_true (sym (tag_name_not_script name t) ∙ s)))) (λ s.
     flag_kind name b w (tag_flag name) refl))
 
-name_turn_kind : (name : List ℕ) (b : ℕ) → is_name_word name ≡ true → KindIs (60 ∷ name) b (name_transition name (name ++ b ∷ []) b)
-name_turn_kind name b w =
+name_transition_kind : (name : List ℕ) (b : ℕ) → is_name_word name ≡ true → KindIs (60 ∷ name) b (name_transition name (name ++ b ∷ []) b)
+name_transition_kind name b w =
     cond_both (begins_word start_words (name ++ b ∷ [])) _ _ (KindIs (60 ∷ name) b) (λ s. tt) (λ n. after_kind name b w)
 
 -- In an end tag.
@@ -422,8 +422,8 @@ end_flag_kind : (name : List ℕ) (b : ℕ) (o : Option Bool) → is_name_word n
 end_flag_kind name b None w = end_kind name b w
 end_flag_kind name b (Some v) w = cond_both (b == 62) _ _ (KindIs (60 ∷ 47 ∷ name) b) (λ s. tt) (λ n. end_kind name b w)
 
-end_turn_kind : (name : List ℕ) (b : ℕ) → is_name_word name ≡ true → KindIs (60 ∷ 47 ∷ name) b (end_name_transition name (name ++ b ∷ []) b)
-end_turn_kind name b w =
+end_transition_kind : (name : List ℕ) (b : ℕ) → is_name_word name ≡ true → KindIs (60 ∷ 47 ∷ name) b (end_name_transition name (name ++ b ∷ []) b)
+end_transition_kind name b w =
     cond_both (begins_word tag_words (name ++ b ∷ [])) _ _ (KindIs (60 ∷ 47 ∷ name) b) (λ s. tt) (λ n. end_flag_kind name b (tag_flag name) w)
 
 -- In a comment.
@@ -447,24 +447,24 @@ comment_no_quote word h =
     let g : (rest : List ℕ) × (is_word comment_words (word ++ rest) ≡ true) = begins_gives comment_words word h in
     all_front no_quote word g.0 (word_passes (list_all no_quote) comment_words (word ++ g.0) refl g.1)
 
-turn_kind : (mode : Mode) (rest : List ℕ) (b : ℕ) → Fits mode rest → KindIs rest b (transition_of mode rest (rest ++ b ∷ []) b)
-turn_kind (Text p) rest b h = text_kind p rest b h (place_after p (rest ++ b ∷ []) b) (run_fails 0 p rest (rest ++ b ∷ []) b h)
-turn_kind Name rest b h = subst (λ s. KindIs s b (transition_of Name s (s ++ b ∷ []) b)) (sym h.is) (name_turn_kind h.name b (front_is_name h.name h.begins))
-turn_kind EndName rest b h = subst (λ s. KindIs s b (transition_of EndName s (s ++ b ∷ []) b)) (sym h.is) (end_turn_kind h.name b (front_is_name h.name (or_right _ _ h.begins)))
-turn_kind Comment rest b h = subst (λ s. KindIs s b (transition_of Comment s (s ++ b ∷ []) b)) (sym h.is) (comment_kind h.word b (comment_no_quote h.word h.begins))
-turn_kind Script rest b h = script_kind rest (drop 8 (rest ++ b ∷ [])) b
-turn_kind (Space v) rest b h = subst (λ s. KindIs s b (transition_of (Space v) s (s ++ b ∷ []) b)) (sym h.is) (space_kind v h.front b (length (h.front ++ 32 ∷ [] ++ b ∷ [])) h.tag)
-turn_kind (Attribute v start) rest b h = subst (λ s. KindIs s b (transition_of (Attribute v start) s (s ++ b ∷ []) b)) (sym h.is) (attribute_kind v start h.front h.name (drop start (h.front ++ 32 ∷ h.name)) b h.tag h.named)
-turn_kind (Equals v) rest b h = subst (λ s. KindIs s b (transition_of (Equals v) s (s ++ b ∷ []) b)) (sym h.is) (equals_kind v h.front h.name b h.tag h.named)
-turn_kind (Value v p) rest b h =
+transition_kind : (mode : Mode) (rest : List ℕ) (b : ℕ) → Fits mode rest → KindIs rest b (transition_of mode rest (rest ++ b ∷ []) b)
+transition_kind (Text p) rest b h = text_kind p rest b h (place_after p (rest ++ b ∷ []) b) (run_fails 0 p rest (rest ++ b ∷ []) b h)
+transition_kind Name rest b h = subst (λ s. KindIs s b (transition_of Name s (s ++ b ∷ []) b)) (sym h.is) (name_transition_kind h.name b (front_is_name h.name h.begins))
+transition_kind EndName rest b h = subst (λ s. KindIs s b (transition_of EndName s (s ++ b ∷ []) b)) (sym h.is) (end_transition_kind h.name b (front_is_name h.name (or_right _ _ h.begins)))
+transition_kind Comment rest b h = subst (λ s. KindIs s b (transition_of Comment s (s ++ b ∷ []) b)) (sym h.is) (comment_kind h.word b (comment_no_quote h.word h.begins))
+transition_kind Script rest b h = script_kind rest (drop 8 (rest ++ b ∷ [])) b
+transition_kind (Space v) rest b h = subst (λ s. KindIs s b (transition_of (Space v) s (s ++ b ∷ []) b)) (sym h.is) (space_kind v h.front b (length (h.front ++ 32 ∷ [] ++ b ∷ [])) h.tag)
+transition_kind (Attribute v start) rest b h = subst (λ s. KindIs s b (transition_of (Attribute v start) s (s ++ b ∷ []) b)) (sym h.is) (attribute_kind v start h.front h.name (drop start (h.front ++ 32 ∷ h.name)) b h.tag h.named)
+transition_kind (Equals v) rest b h = subst (λ s. KindIs s b (transition_of (Equals v) s (s ++ b ∷ []) b)) (sym h.is) (equals_kind v h.front h.name b h.tag h.named)
+transition_kind (Value v p) rest b h =
     subst (λ s. KindIs s b (transition_of (Value v p) s (s ++ b ∷ []) b)) (sym h.is)
     (value_kind v p h.front h.name h.run b (length (opening h.front h.name)) h.tag h.named h.has (place_after p (opening h.front h.name ++ h.run ++ b ∷ []) b)
     (run_fails (length (opening h.front h.name)) p h.run (opening h.front h.name ++ h.run ++ b ∷ []) b h.has))
-turn_kind (Close v) rest b h =
+transition_kind (Close v) rest b h =
     subst (λ s. KindIs s b (transition_of (Close v) s (s ++ b ∷ []) b)) (sym h.is)
     (close_kind v v h.front (attribute_spelling h.attribute) b 32 _ h.tag (written_closed h.attribute h.fine) refl refl)
-turn_kind Slash rest b h = subst (λ s. KindIs s b (transition_of Slash s (s ++ b ∷ []) b)) (sym h.is) (slash_kind h.front b h.tag)
+transition_kind Slash rest b h = subst (λ s. KindIs s b (transition_of Slash s (s ++ b ∷ []) b)) (sym h.is) (slash_kind h.front b h.tag)
 
 -- The kind that the step tells is the fault's.
 pub fails_kind : (mode : Mode) (rest : List ℕ) (b : ℕ) (kind : ReadKind) → Fits mode rest → transition_of mode rest (rest ++ b ∷ []) b ≡ Fails kind → HasKind rest b kind
-fails_kind mode rest b kind h e = subst (KindIs rest b) e (turn_kind mode rest b h)
+fails_kind mode rest b kind h e = subst (KindIs rest b) e (transition_kind mode rest b h)

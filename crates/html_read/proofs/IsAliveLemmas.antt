@@ -13,7 +13,7 @@ use Rattle.html_read.specs.Tokens.{spelling, spellings, IsToken, AreTokensFrom, 
 use Rattle.html_read.specs.Faults.{IsAlive, begins_tag, ends_in_text}
 use Rattle.html_read.specs.Machine.{transition_of, go_on, mode_after}
 use Rattle.html_read.proofs.WordLemmas.{none_true}
-use Rattle.html_read.proofs.ModeAfterLemmas.{turn_at, text_mode, text_through}
+use Rattle.html_read.proofs.ModeAfterLemmas.{transition_at, text_mode, text_through}
 use Rattle.html_read.proofs.PassesLemmas.{Passes, tok_passes}
 
 -- No byte is refused.
@@ -25,7 +25,7 @@ live_on (Fails kind) next ended cut = false
 
 abbrev pub lives : Mode → List ℕ → List ℕ → Bool
 lives mode seen [] = true
-lives mode seen (b ∷ bs) = live_on (turn_at mode seen b) (λ m. lives m (seen ++ b ∷ []) bs) (lives (Text Whole) [] bs) (lives Name (60 ∷ []) bs)
+lives mode seen (b ∷ bs) = live_on (transition_at mode seen b) (λ m. lives m (seen ++ b ∷ []) bs) (lives (Text Whole) [] bs) (lives Name (60 ∷ []) bs)
 
 some_mode : (m n : Mode) → ◌≡◌ {A = Option Mode} (Some m) (Some n) → m ≡ n
 some_mode m n e = cc
@@ -48,7 +48,7 @@ lives_after mode next seen (b ∷ xs) ys e =
     ] in
     go (transition_of mode seen (seen ++ b ∷ []) b) e
 
-cuts_here : (s : ℕ) (seen : List ℕ) → turn_at (Text Whole) (s ∷ seen) 60 ≡ Cuts
+cuts_here : (s : ℕ) (seen : List ℕ) → transition_at (Text Whole) (s ∷ seen) 60 ≡ Cuts
 cuts_here s seen = cond-false _ _ _ (ne_eqb (length ((s ∷ seen) ++ 60 ∷ [])) 1 (λ e. omega (arith, length-append seen (60 ∷ []))))
 
 -- A `<` between tokens or after a text begins the next token.

@@ -15,3 +15,4 @@ pub mod BuildingLemmas
 pub mod WalksLemmas
 pub mod FinishCauseLemmas
 pub mod TokenizesLemmas
+pub mod SplitsLemmas

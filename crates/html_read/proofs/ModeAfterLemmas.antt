@@ -121,8 +121,8 @@ value_mode v p q seen (b ∷ bs) e =
     go (place_after p (seen ++ b ∷ []) b) e
 
 -- Within a name, a comment.
-abbrev pub turn_at : Mode → List ℕ → ℕ → Transition
-turn_at mode seen b = transition_of mode seen (seen ++ b ∷ []) b
+abbrev pub transition_at : Mode → List ℕ → ℕ → Transition
+transition_at mode seen b = transition_of mode seen (seen ++ b ∷ []) b
 
 pub name_on : (name more : List ℕ) → is_word start_words (name ++ more) ≡ true → mode_after Name (60 ∷ name) more ≡ Some Name
 name_on name [] h = refl

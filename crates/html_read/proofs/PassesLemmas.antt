@@ -26,7 +26,7 @@ use Rattle.html_read.specs.Tokens.{HasValue, AreAttributes, script_end, IsScript
 use Rattle.html_read.specs.Machine.{is_word, begins_word, tag_words, start_words, tag_flag, close_transition, flag_transition, end_flag_transition, go_on, mode_after}
 use Rattle.html_read.proofs.WordLemmas.{none_true, begins_gives, is_word_byte, begins_with_letter, start_word_bytes, tag_name_letter, tag_name_is, tag_name_not_script, tag_of_flag, flag_of_tag, flag_of_void}
 use Rattle.html_read.proofs.FitsLemmas.{script_goes}
-use Rattle.html_read.proofs.ModeAfterLemmas.{turn_at, mode_append, value_mode, text_through, name_on, end_name_on}
+use Rattle.html_read.proofs.ModeAfterLemmas.{transition_at, mode_append, value_mode, text_through, name_on, end_name_on}
 
 -- The bytes lead from the `<` on through modes, and the last one ends the token.
 pub record Passes (bytes : List ℕ) : Type 0 where
@@ -35,7 +35,7 @@ pub record Passes (bytes : List ℕ) : Type 0 where
   pub mode : Mode
   pub is : bytes ≡ 60 ∷ front ++ last ∷ []
   pub through : mode_after Name (60 ∷ []) front ≡ Some mode
-  pub ends : turn_at mode (60 ∷ front) last ≡ Ends
+  pub ends : transition_at mode (60 ∷ front) last ≡ Ends
 
 all_last : (test : ℕ → Bool) (xs more : List ℕ) (b : ℕ) → list_all test ((xs ++ b ∷ []) ++ more) ≡ true → test b ≡ true
 all_last test [] more b h = (and_parts _ _ h).0
@@ -55,7 +55,7 @@ some_name [] h = absurd (none_true h)
 some_name (b ∷ bs) h = ne_eqb (length (b ∷ bs)) 0 (λ e. omega arith)
 
 -- After the name of a tag.
-pub name_closes : (name : List ℕ) (v : Bool) (b : ℕ) → tag_flag name ≡ Some v → is_word_byte b ≡ false → turn_at Name (60 ∷ name) b ≡ close_transition v b
+pub name_closes : (name : List ℕ) (v : Bool) (b : ℕ) → tag_flag name ≡ Some v → is_word_byte b ≡ false → transition_at Name (60 ∷ name) b ≡ close_transition v b
 name_closes name v b f n =
     let tag : IsTagName name = tag_of_flag name v f in
     cond-false _ _ _ (not_begins name b n) ∙ (cond-false _ _ _ (some_name name (tag_name_letter name tag)) ∙ (cond-false _ _ _ (tag_name_not_script name tag)
@@ -63,9 +63,9 @@ name_closes name v b f n =
 
 -- A place in a tag where an attribute may begin or the tag may end.
 pub record Closed (v : Bool) (mode : Mode) (seen : List ℕ) : Type 0 where
-  pub space : turn_at mode seen 32 ≡ Goes (Space v)
-  pub ends : turn_at mode seen 62 ≡ Ends
-  pub slash : v ≡ true → turn_at mode seen 47 ≡ Goes Slash
+  pub space : transition_at mode seen 32 ≡ Goes (Space v)
+  pub ends : transition_at mode seen 62 ≡ Ends
+  pub slash : v ≡ true → transition_at mode seen 47 ≡ Goes Slash
 
 slash_of : (v : Bool) → v ≡ true → close_transition v 47 ≡ Goes Slash
 slash_of v e = ap (λ w. close_transition w 47) e
@@ -176,7 +176,7 @@ void_passes name attributes f h =
       ends = refl;
     }
 
-slash_goes : turn_at Name (60 ∷ []) 47 ≡ Goes EndName
+slash_goes : transition_at Name (60 ∷ []) 47 ≡ Goes EndName
 unfolding tag_words element_rows
 slash_goes = refl
 
@@ -191,7 +191,7 @@ end_passes name t =
       ends = cond-false _ _ _ (not_begins_tag name 62 refl) ∙ ap (λ o. end_flag_transition o 62) f.1;
     }
 
-bang_goes : turn_at Name (60 ∷ []) 33 ≡ Goes Comment
+bang_goes : transition_at Name (60 ∷ []) 33 ≡ Goes Comment
 unfolding tag_words element_rows
 bang_goes = refl
 
@@ -234,7 +234,7 @@ script_on body (b ∷ more) fine =
     ap (λ t. go_on t (λ m. mode_after m (codes "<script>" ++ body ++ b ∷ []) more)) (cond-false (ends_with nat_eq (body ++ b ∷ []) script_end) Ends (Goes Script) open_still)
     ∙ script_on (body ++ b ∷ []) more shifted
 
-script_begins : turn_at Name (codes "<script") 62 ≡ Goes Script
+script_begins : transition_at Name (codes "<script") 62 ≡ Goes Script
 unfolding tag_words element_rows
 script_begins = refl
 

@@ -18,7 +18,7 @@ use Rattle.html_read.specs.Tokens.{spelling, spellings, IsToken, AreTokensFrom, 
 use Rattle.html_read.specs.Faults.{IsAlive, IsFirstDead, IsBegun, begins_tag, ends_in_text, Splits}
 use Rattle.html_read.specs.Machine.{transition_of, go_on, mode_after, mode_of}
 use Rattle.html_read.proofs.WordLemmas.{none_true}
-use Rattle.html_read.proofs.FitsLemmas.{Fits, IsSpelling, IsGoodTurn, turn_good}
+use Rattle.html_read.proofs.FitsLemmas.{Fits, IsSpelling, IsGoodTransition, transition_good}
 use Rattle.html_read.proofs.ModeAfterLemmas.{mode_append}
 use Rattle.html_read.proofs.IsAliveLemmas.{live_on, lives, lives_after, lives_rest, alive_lives}
 use Rattle.html_read.proofs.IsBegunLemmas.{fits_begun}
@@ -33,14 +33,14 @@ none_mode n e = cc
 fits_after : (mode next : Mode) (seen bs : List ℕ) → Fits mode seen → mode_after mode seen bs ≡ Some next → Fits next (seen ++ bs)
 fits_after mode next seen [] h e = subst (Fits next) (sym (append-nil seen)) (subst (λ m. Fits m seen) (some_mode mode next e) h)
 fits_after mode next seen (b ∷ bs) h e =
-    let go : (t : Transition) → IsGoodTurn seen b t → go_on t (λ m. mode_after m (seen ++ b ∷ []) bs) ≡ Some next → Fits next (seen ++ b ∷ bs) = λ t.
-    elim t as (λ t. IsGoodTurn seen b t → go_on t (λ m. mode_after m (seen ++ b ∷ []) bs) ≡ Some next → Fits next (seen ++ b ∷ bs)) [
+    let go : (t : Transition) → IsGoodTransition seen b t → go_on t (λ m. mode_after m (seen ++ b ∷ []) bs) ≡ Some next → Fits next (seen ++ b ∷ bs) = λ t.
+    elim t as (λ t. IsGoodTransition seen b t → go_on t (λ m. mode_after m (seen ++ b ∷ []) bs) ≡ Some next → Fits next (seen ++ b ∷ bs)) [
       | Goes m ↦ λ g k. subst (Fits next) (append_assoc seen (b ∷ []) bs) (fits_after m next (seen ++ b ∷ []) bs g k)
       | Ends ↦ λ g k. absurd (none_mode next k)
       | Cuts ↦ λ g k. absurd (none_mode next k)
       | Fails kind ↦ λ g k. absurd (none_mode next k)
     ] in
-    go (transition_of mode seen (seen ++ b ∷ []) b) (turn_good mode seen b h) e
+    go (transition_of mode seen (seen ++ b ∷ []) b) (transition_good mode seen b h) e
 
 pub mode_fits : (mode : Mode) (rest : List ℕ) → mode_of rest ≡ Some mode → Fits mode rest
 unfolding mode_of
@@ -95,9 +95,9 @@ splits_of bytes toks mode rest s = record { whole = s.whole; tokens = s.tokens; 
 pub stands_of : (bytes : List ℕ) (toks : List Token) (mode : Mode) (rest : List ℕ) → Splits bytes toks rest → mode_of rest ≡ Some mode → Stands bytes toks mode rest
 stands_of bytes toks mode rest s e = record { whole = s.whole; tokens = s.tokens; mode_is = e; ended = s.ended }
 
-tag_front_more : (rest : List ℕ) (b : ℕ) → begins_tag rest ≡ true → begins_tag (rest ++ b ∷ []) ≡ true
-tag_front_more [] b h = absurd (none_true h)
-tag_front_more (x ∷ rest) b h = h
+tag_start_more : (rest : List ℕ) (b : ℕ) → begins_tag rest ≡ true → begins_tag (rest ++ b ∷ []) ≡ true
+tag_start_more [] b h = absurd (none_true h)
+tag_start_more (x ∷ rest) b h = h
 
 pub goes : (bytes : List ℕ) (toks : List Token) (mode next : Mode) (rest : List ℕ) (b : ℕ) → Stands bytes toks mode rest → transition_of mode rest (rest ++ b ∷ []) b ≡ Goes next
     → Stands (bytes ++ b ∷ []) toks next (rest ++ b ∷ [])
@@ -105,15 +105,15 @@ goes bytes toks mode next rest b s t = record {
   whole = ap (λ x. x ++ b ∷ []) s.whole ∙ append_assoc (spellings toks) rest (b ∷ []);
   tokens = s.tokens;
   mode_is = mode_more mode next rest b s.mode_is t;
-  ended = λ e. tag_front_more rest b (s.ended e);
+  ended = λ e. tag_start_more rest b (s.ended e);
 }
 
-turn_gives : (mode : Mode) (rest : List ℕ) (b : ℕ) (t : Transition) → mode_of rest ≡ Some mode → transition_of mode rest (rest ++ b ∷ []) b ≡ t → IsGoodTurn rest b t
-turn_gives mode rest b t e is = subst (IsGoodTurn rest b) is (turn_good mode rest b (mode_fits mode rest e))
+transition_gives : (mode : Mode) (rest : List ℕ) (b : ℕ) (t : Transition) → mode_of rest ≡ Some mode → transition_of mode rest (rest ++ b ∷ []) b ≡ t → IsGoodTransition rest b t
+transition_gives mode rest b t e is = subst (IsGoodTransition rest b) is (transition_good mode rest b (mode_fits mode rest e))
 
 -- a token that ends with a byte
 pub ending : (mode : Mode) (rest : List ℕ) (b from : ℕ) → mode_of rest ≡ Some mode → transition_of mode rest (rest ++ b ∷ []) b ≡ Ends → IsSpelling false (rest ++ b ∷ []) from
-ending mode rest b from e t = turn_gives mode rest b Ends e t from
+ending mode rest b from e t = transition_gives mode rest b Ends e t from
 
 pub ends : (bytes : List ℕ) (toks : List Token) (mode : Mode) (rest : List ℕ) (b : ℕ) (tok : Token) → Stands bytes toks mode rest
     → IsToken tok → rest ++ b ∷ [] ≡ spelling tok → is_text tok ≡ false → place_of tok ≡ length (spellings toks) → Stands (bytes ++ b ∷ []) (toks ++ tok ∷ []) (Text Whole) []
@@ -126,7 +126,7 @@ ends bytes toks mode rest b tok s t is other place = record {
 
 -- a text that ends before a byte
 pub cutting : (mode : Mode) (rest : List ℕ) (b from : ℕ) → mode_of rest ≡ Some mode → transition_of mode rest (rest ++ b ∷ []) b ≡ Cuts → (b ≡ 60) × IsSpelling true rest from
-cutting mode rest b from e t = let g : (b ≡ 60) × ((from : ℕ) → IsSpelling true rest from) = turn_gives mode rest b Cuts e t in (g.0, g.1 from)
+cutting mode rest b from e t = let g : (b ≡ 60) × ((from : ℕ) → IsSpelling true rest from) = transition_gives mode rest b Cuts e t in (g.0, g.1 from)
 
 spelled_no_tag : (more : List ℕ) (b : ℕ) → begins_tag (spelling_of b ++ more) ≡ false
 spelled_no_tag more = each_byte (λ b. begins_tag (spelling_of b ++ more) ≡ false) refl refl refl refl refl
@@ -206,7 +206,7 @@ unfolding mode_of
 dead bytes toks mode rest b kind s t a =
     let joined : bytes ++ b ∷ [] ≡ spellings toks ++ (rest ++ b ∷ []) = ap (λ x. x ++ b ∷ []) s.whole ∙ append_assoc (spellings toks) rest (b ∷ []) in
     let over : lives (Text Whole) [] (spellings toks ++ (rest ++ b ∷ [])) ≡ true = ap (lives (Text Whole) []) (sym joined) ∙ alive_lives (bytes ++ b ∷ []) a in
-    let alone : lives (Text Whole) [] (rest ++ b ∷ []) ≡ true = sym (lives_rest toks (rest ++ b ∷ []) s.tokens (λ e. tag_front_more rest b (s.ended e))) ∙ over in
+    let alone : lives (Text Whole) [] (rest ++ b ∷ []) ≡ true = sym (lives_rest toks (rest ++ b ∷ []) s.tokens (λ e. tag_start_more rest b (s.ended e))) ∙ over in
     let last : lives mode rest (b ∷ []) ≡ true = sym (lives_after (Text Whole) mode [] rest (b ∷ []) s.mode_is) ∙ alone in
     let refused : lives mode rest (b ∷ []) ≡ false = ap (λ x. live_on x (λ m. true) true true) t in
     none_true (sym refused ∙ last)

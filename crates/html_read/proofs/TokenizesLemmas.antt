@@ -24,7 +24,7 @@ use Rattle.html_read.specs.Faults.{begins_tag, ends_in_text, IsBegun, Splits}
 use Rattle.html_read.specs.Building.{prefix_len, IsTokenOf, EndsAttribute, EndsTag, IsTagOf}
 use Rattle.html_read.specs.Machine.{go_on, mode_after}
 use Rattle.html_read.proofs.WordLemmas.{none_true, tag_of_flag, flag_of_void}
-use Rattle.html_read.proofs.ModeAfterLemmas.{turn_at}
+use Rattle.html_read.proofs.ModeAfterLemmas.{transition_at}
 use Rattle.html_read.proofs.PassesLemmas.{Passes, tok_passes}
 use Rattle.html_read.proofs.StandsLemmas.{escaped_no_tag}
 use Rattle.html_read.proofs.BuildingLemmas.{Cut, tag_cut, attribute_cut, value_cut, front_len_at, start_ends, void_ends, text_branch, end_branch, comment_branch, script_branch, tag_branch, rest_ends, prefix_is, tag_at, no_script_tag}
@@ -179,7 +179,7 @@ len_on (Fails kind) next = 0
 
 abbrev ends_len : Mode → List ℕ → List ℕ → ℕ
 ends_len mode seen [] = 0
-ends_len mode seen (b ∷ bs) = len_on (turn_at mode seen b) (λ m. ends_len m (seen ++ b ∷ []) bs)
+ends_len mode seen (b ∷ bs) = len_on (transition_at mode seen b) (λ m. ends_len m (seen ++ b ∷ []) bs)
 
 some_mode : (m n : Mode) → ◌≡◌ {A = Option Mode} (Some m) (Some n) → m ≡ n
 some_mode m n e = cc
@@ -197,7 +197,7 @@ ends_through mode next seen (b ∷ xs) ys e =
       | Cuts ↦ λ h. absurd (none_mode next h)
       | Fails k ↦ λ h. absurd (none_mode next h)
     ] in
-    go (turn_at mode seen b) e
+    go (transition_at mode seen b) e
 
 tok_len : (tok : Token) (rest : List ℕ) → IsToken tok → is_text tok ≡ false → length (spelling tok) ≡ ends_len modes.Name (60 ∷ []) (drop 1 (spelling tok ++ rest)) + 1
 tok_len tok rest h n =

@@ -44,6 +44,20 @@ pub record Splits (bytes : List ℕ) (toks : List Token) (rest : List ℕ) : Typ
   pub begun : (rest ≡ []) ⊎ IsBegun rest
   pub ended : ends_in_text false toks ≡ true → begins_tag rest ≡ true
 
+-- The bytes split into tokens and a rest.
+pub record HasSplit (bytes : List ℕ) : Type 0 where
+  pub toks : List Token
+  pub rest : List ℕ
+  pub split : Splits bytes toks rest
+
+-- The prefix splits into the first of the tokens and a rest of its own.
+pub record SplitsBefore (prefix : List ℕ) (toks : List Token) : Type 0 where
+  pub first : List Token
+  pub rest : List ℕ
+  pub further : List Token
+  pub split : Splits prefix first rest
+  pub all : toks ≡ first ++ further
+
 -- The kinds of faults. Each is told of the rest, which no token ended, and of the byte that cannot follow it.
 
 -- The run is what the rest has of a text or of an attribute's value, as it is written.
