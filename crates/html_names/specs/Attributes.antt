@@ -17,20 +17,20 @@ Meaning = Option (List ℕ) × AttrKind
 unfoldable pub attribute_rows : List (List ℕ × Meaning)
 attribute_rows =
     (codes "className", (Some (codes "class"), Plain)) ∷
-    (codes "htmlFor", (Some (codes "for"), Plain)) ∷
-    (codes "title", (None, Plain)) ∷
-    (codes "lang", (None, Plain)) ∷
-    (codes "dir", (None, Plain)) ∷
-    (codes "role", (None, Plain)) ∷
-    (codes "href", (None, Plain)) ∷
-    (codes "target", (None, Plain)) ∷
-    (codes "rel", (None, Plain)) ∷
     (codes "cite", (None, Plain)) ∷
-    (codes "id", (None, Id)) ∷
-    (codes "hidden", (None, Boolean)) ∷
+    (codes "dir", (None, Plain)) ∷
     (codes "disabled", (None, Boolean)) ∷
-    (codes "open", (None, Boolean)) ∷
+    (codes "hidden", (None, Boolean)) ∷
+    (codes "href", (None, Plain)) ∷
+    (codes "htmlFor", (Some (codes "for"), Plain)) ∷
+    (codes "id", (None, Id)) ∷
     (codes "key", (None, Key)) ∷
+    (codes "lang", (None, Plain)) ∷
+    (codes "open", (None, Boolean)) ∷
+    (codes "rel", (None, Plain)) ∷
+    (codes "role", (None, Plain)) ∷
+    (codes "target", (None, Plain)) ∷
+    (codes "title", (None, Plain)) ∷
     []
 
 -- A byte that may follow `aria-` and `data-`: a to z, 0 to 9 and `-`.

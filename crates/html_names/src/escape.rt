@@ -94,11 +94,13 @@ pub fn unescape(alloc: Global, bytes: &[u8]) -> Result<Vec<u8>, EntityFault>
     ensures utf8 { IsUtf8 bytes.now → IfOk result (λ text. IsUtf8 text.items) }
     ensures refused { IfErr result (HasEntityCause bytes.now) }
 {
-    let mut text = Vec::new(alloc);
+    let mut text = Vec::with_capacity(alloc, bytes.len())?;
     let mut rest = bytes;
     while let Some((byte, more)) = split_spelling(rest) {
         text.extend_from_slice(&[byte])?;
-        rest = more;
+        let (plain, marked) = more.split_at(plain_length(more));
+        text.extend_from_slice(plain)?;
+        rest = marked;
     }
     if rest.is_empty() {
         Ok(text)
