@@ -2,7 +2,7 @@
 use Rattle.std.specs.Prelude.{ℕ, ◌/◌, ◌%◌, List, [], ◌∷◌, ◌++◌, codes}
 use Rattle.std.specs.List.{flat_map}
 use Rattle.std.specs.Fmt.{decimal}
-use Rattle.fizz_text.specs.Hexadecimal.{hex_digit}
+use Rattle.std.specs.Char.{digit_char}
 use Rattle.fizz_cli.specs.declared.note.FieldValue.{FieldValue}
 use Rattle.fizz_cli.specs.declared.note.FieldValue.TheVariants.{Number, Words, Steps, Hash}
 use Rattle.fizz_cli.specs.declared.note.Field.{Field}
@@ -35,7 +35,7 @@ pub record Row : Type 0 where
   pub fields : List Entry
 
 abbrev pub two_digits : ℕ → List ℕ
-two_digits byte = hex_digit (byte / 16) ∷ hex_digit (byte % 16) ∷ []
+two_digits byte = digit_char (byte / 16) ∷ digit_char (byte % 16) ∷ []
 
 -- a step of a path after the first
 abbrev pub after_dot : ℕ → List ℕ

@@ -3,7 +3,7 @@
 ghost use Rattle.std.specs.Prelude.{◌≡◌, ◌++◌, ◌<◌, IfOk, OnOk, codes, map};
 ghost use Rattle.std.specs.List.{flat_map};
 ghost use Rattle.std.specs.Fmt.{decimal};
-ghost use Rattle.fizz_text.specs.Hexadecimal.{hex_digit};
+ghost use Rattle.std.specs.Char.{digit_char};
 ghost use Rattle.fizz_cli.specs.Notes.{after_dot, app_row, dotted, entry_of, entry_text, line_of, note_of, number, page_row, placed, row_of, row_text, script_row, two_digits, value_of, value_text, words};
 
 use crate::refusal::{AppFault, FileFault, PageFault, Refusal, ScriptFault};
@@ -248,7 +248,7 @@ fn push_digits(note: &mut Vec<u8>, byte: u8) -> Result<(), AllocError>
 
 fn hex_digit(value: u8) -> u8
     requires { value < 16 }
-    ensures { result ≡ hex_digit value }
+    ensures { result ≡ digit_char value }
 {
     if value < 10 {
         b'0' + value

@@ -18,7 +18,7 @@ pub(crate) const NO_MEMORY: u8 = 8;
 
 /// Writes bytes to the output.
 pub(crate) fn write<S: Sink>(bytes: &[u8], out: &mut S) -> Result<(), Stop>
-    ensures { WritesAll bytes.now (sink_change (S.held out.old) (S.faults out.old) (S.held out.new) (S.faults out.new)) result }
+    ensures { WritesAll bytes.now (sink_change (S.contents out.old) (S.faults out.old) (S.contents out.new) (S.faults out.new)) result }
 {
     match out.write_all(bytes) {
         Ok(()) => Ok(()),
@@ -29,7 +29,7 @@ pub(crate) fn write<S: Sink>(bytes: &[u8], out: &mut S) -> Result<(), Stop>
 
 /// Sends a note, and ends with the status unless the sink refuses.
 pub(crate) fn send<N: Sink>(status: u8, note: &[u8], notes: &mut N) -> u8
-    ensures { SendsAll status note.now (sink_change (N.held notes.old) (N.faults notes.old) (N.held notes.new) (N.faults notes.new)) result }
+    ensures { SendsAll status note.now (sink_change (N.contents notes.old) (N.faults notes.old) (N.contents notes.new) (N.faults notes.new)) result }
 {
     match notes.write_all(note) {
         Ok(()) => status,
@@ -41,7 +41,7 @@ pub(crate) fn send<N: Sink>(status: u8, note: &[u8], notes: &mut N) -> u8
 /// Tells why a command was refused, and ends with the status of that.
 pub(crate) fn tell<N: Sink>(alloc: Global, refusal: &Refusal, notes: &mut N) -> u8
     ensures { SendsAll (status_of refusal.now) (note_of refusal.now)
-        (sink_change (N.held notes.old) (N.faults notes.old) (N.held notes.new) (N.faults notes.new)) result }
+        (sink_change (N.contents notes.old) (N.faults notes.old) (N.contents notes.new) (N.faults notes.new)) result }
 {
     match note_of(alloc, refusal) {
         Ok(note) => send(status_of(refusal), &note, notes),

@@ -27,8 +27,8 @@ pub fn fizz_inline<F: Files, S: Sink, N: Sink>(
     requires { IsInline command.now }
     ensures { ServesCommand command.now
         (files_change (F.files files.old) (F.faults files.old) (F.files files.new) (F.faults files.new))
-        (sink_change (S.held out.old) (S.faults out.old) (S.held out.new) (S.faults out.new))
-        (sink_change (N.held notes.old) (N.faults notes.old) (N.held notes.new) (N.faults notes.new)) result }
+        (sink_change (S.contents out.old) (S.faults out.old) (S.contents out.new) (S.faults out.new))
+        (sink_change (N.contents notes.old) (N.faults notes.old) (N.contents notes.new) (N.faults notes.new)) result }
 {
     laws_of_refusals(command);
     match serve(alloc, command, files, out) {
@@ -52,8 +52,8 @@ pub fn fizz<R: Threads + Wait + Sync, F: Files, S: Sink, N: Sink, G: Gate + Sync
 ) -> u8
     ensures { ServesWords (command_of words.now)
         (files_change (F.files files.old) (F.faults files.old) (F.files files.new) (F.faults files.new))
-        (sink_change (S.held out.old) (S.faults out.old) (S.held out.new) (S.faults out.new))
-        (sink_change (N.held notes.old) (N.faults notes.old) (N.held notes.new) (N.faults notes.new)) result }
+        (sink_change (S.contents out.old) (S.faults out.old) (S.contents out.new) (S.faults out.new))
+        (sink_change (N.contents notes.old) (N.faults notes.old) (N.contents notes.new) (N.faults notes.new)) result }
 {
     match read_words(alloc, words) {
         Ok(command) => fizz_inline(alloc, &command, files, out, notes),

@@ -6,9 +6,9 @@ pub enum AttrKind {
     /// A number and a text are printed, and nothing else is.
     Plain,
     /// Printed with an empty value where the value is true.
-    Flag,
+    Boolean,
     /// A number, a text and a truth value are printed.
-    Spoken,
+    Booleanish,
     /// As `Plain`, save that an id of the renderer's own is left out (`is_reserved_id`).
     Id,
     /// Not printed.
@@ -44,8 +44,8 @@ pub(crate) static ATTRIBUTES: [(&str, (AttrName, AttrKind)); 15] = [
     ("rel", (AttrName::Own, AttrKind::Plain)),
     ("cite", (AttrName::Own, AttrKind::Plain)),
     ("id", (AttrName::Own, AttrKind::Id)),
-    ("hidden", (AttrName::Own, AttrKind::Flag)),
-    ("disabled", (AttrName::Own, AttrKind::Flag)),
-    ("open", (AttrName::Own, AttrKind::Flag)),
+    ("hidden", (AttrName::Own, AttrKind::Boolean)),
+    ("disabled", (AttrName::Own, AttrKind::Boolean)),
+    ("open", (AttrName::Own, AttrKind::Boolean)),
     ("key", (AttrName::Own, AttrKind::Key)),
 ];

@@ -4,9 +4,9 @@ ghost use Rattle.std.specs.Prelude.{◌≡◌, ◌++◌, ℕ, List, ◌&&◌, �
 ghost use Rattle.std.specs.List.{list_all};
 ghost use Rattle.std.specs.Map.{lookup};
 ghost use Rattle.std.specs.Str.{bytes_eq};
-ghost use Rattle.html_names.specs.Attributes.{Meaning, attribute_of, printed_name, is_spoken_byte, is_spoken_name, is_reserved};
+ghost use Rattle.html_names.specs.Attributes.{Meaning, attribute_of, has_prefix, printed_name, is_suffix_byte, is_prefixed_name, is_reserved};
 ghost use Rattle.html_names.specs.Elements.{IsElementName, begins_name, element_rows, void_flag};
-ghost use Rattle.html_names.specs.Names.{begins_with, is_plain_name};
+ghost use Rattle.html_names.specs.Names.{is_plain_name};
 ghost use Rattle.html_names.specs.Rows.{row_of, meaning_of, attribute_row};
 
 use crate::attributes::{ATTRIBUTES, AttrKind, AttrName, Attribute};
@@ -14,7 +14,8 @@ use crate::elements::{ELEMENTS, Element};
 
 /// The element of this name, or `None` exactly where there is no such element. It looks at each of the 51 rows.
 pub fn element(name: &[u8]) -> Option<Element>
-    ensures { MatchOption result (void_flag name.now ≡ None) (λ e. (e.name.now ≡ name.now) × (void_flag name.now ≡ Some e.is_void)) }
+    ensures { MatchOption result (void_flag name.now ≡ None)
+        (λ e. (e.name.now ≡ name.now) × (void_flag name.now ≡ Some e.is_void)) }
 {
     match find_row(&ELEMENTS, name) {
         Some((name, is_void)) => Some(Element {
@@ -49,10 +50,10 @@ fn any_begins(rows: &[(&'static str, bool)], bytes: &[u8]) -> bool
 pub fn attribute(name: &[u8]) -> Option<Attribute>
     ensures { option_map meaning_of result ≡ attribute_of name.now }
 {
-    if is_spoken(name) {
+    if is_prefixed(name) {
         return Some(Attribute {
             printed: AttrName::Own,
-            kind: AttrKind::Spoken,
+            kind: AttrKind::Booleanish,
         });
     }
     find_attribute(&ATTRIBUTES, name)
@@ -70,40 +71,40 @@ fn find_attribute(rows: &[(&'static str, (AttrName, AttrKind))], name: &[u8]) ->
     }
 }
 
-fn is_spoken(name: &[u8]) -> bool
-    ensures { result ≡ is_spoken_name name.now }
+fn is_prefixed(name: &[u8]) -> bool
+    ensures { result ≡ is_prefixed_name name.now }
 {
-    match spoken_part(name) {
-        Some(part) => is_spoken_part(part) && name != b"data-dgst".as_slice(),
+    match suffix_of(name) {
+        Some(suffix) => is_suffix(suffix) && name != b"data-dgst".as_slice(),
         None => false,
     }
 }
 
 /// What follows `aria-` or `data-`.
-fn spoken_part(name: &[u8]) -> Option<&[u8]>
-    ensures { MatchOption result ((begins_with (codes "aria-") name.now || begins_with (codes "data-") name.now) ≡ false)
-        (λ part. ((begins_with (codes "aria-") name.now || begins_with (codes "data-") name.now) ≡ true) × (part.now ≡ drop 5 name.now)) }
+fn suffix_of(name: &[u8]) -> Option<&[u8]>
+    ensures { MatchOption result (has_prefix name.now ≡ false)
+        (λ suffix. (has_prefix name.now ≡ true) × (suffix.now ≡ drop 5 name.now)) }
 {
     match name.strip_prefix(b"aria-") {
-        Some(part) => Some(part),
+        Some(suffix) => Some(suffix),
         None => name.strip_prefix(b"data-"),
     }
 }
 
-fn is_spoken_part(part: &[u8]) -> bool
-    ensures { result ≡ (nat_lt 0 (length part.now) && list_all is_spoken_byte part.now) }
+fn is_suffix(suffix: &[u8]) -> bool
+    ensures { result ≡ (nat_lt 0 (length suffix.now) && list_all is_suffix_byte suffix.now) }
 {
-    !part.is_empty() && are_spoken(part)
+    !suffix.is_empty() && are_suffix_bytes(suffix)
 }
 
-fn are_spoken(part: &[u8]) -> bool
-    ensures { result ≡ list_all is_spoken_byte part.now }
+fn are_suffix_bytes(suffix: &[u8]) -> bool
+    ensures { result ≡ list_all is_suffix_byte suffix.now }
 {
-    part.iter().all(|byte| may_be_spoken(*byte))
+    suffix.iter().all(|byte| is_suffix_byte(*byte))
 }
 
-fn may_be_spoken(byte: u8) -> bool
-    ensures { result ≡ is_spoken_byte byte }
+fn is_suffix_byte(byte: u8) -> bool
+    ensures { result ≡ is_suffix_byte byte }
 {
     matches!(byte, b'a'..=b'z' | b'0'..=b'9' | b'-')
 }
@@ -122,15 +123,19 @@ pub fn is_reserved_id(prefix: &[u8], value: &[u8]) -> bool
 /// `-`, and an id of the renderer's own is reserved.
 pub fn laws_of_names()
     ensures elements { (name : List ℕ) → IsElementName name → is_plain_name name ≡ true }
-    ensures attributes { (name : List ℕ) (meaning : Meaning) → attribute_of name ≡ Some meaning → is_plain_name (printed_name name meaning) ≡ true }
-    ensures own_ids { (prefix more : List ℕ) → (is_reserved prefix (prefix ++ (codes "B:" ++ more)) ≡ true)
-        × (is_reserved prefix (prefix ++ (codes "S:" ++ more)) ≡ true) × (is_reserved prefix (prefix ++ (codes "P:" ++ more)) ≡ true) }
+    ensures attributes { (name : List ℕ) (meaning : Meaning) → attribute_of name ≡ Some meaning
+        → is_plain_name (printed_name name meaning) ≡ true }
+    ensures own_ids { (prefix more : List ℕ)
+        → (is_reserved prefix (prefix ++ (codes "B:" ++ more)) ≡ true)
+        × (is_reserved prefix (prefix ++ (codes "S:" ++ more)) ≡ true)
+        × (is_reserved prefix (prefix ++ (codes "P:" ++ more)) ≡ true) }
 {}
 
 /// The first row of this name.
 fn find_row<'a, V>(rows: &'a [(&'static str, V)], name: &[u8]) -> Option<&'a (&'static str, V)>
     ensures { MatchOption result (lookup (bytes_eq name.now) (map row_of rows.now) ≡ None)
-        (λ row. (row.now.0.now ≡ name.now) × (lookup (bytes_eq name.now) (map row_of rows.now) ≡ Some row.now.1)) }
+        (λ row. (row.now.0.now ≡ name.now)
+        × (lookup (bytes_eq name.now) (map row_of rows.now) ≡ Some row.now.1)) }
 {
     for row in rows {
         if name == row.0.as_bytes() {

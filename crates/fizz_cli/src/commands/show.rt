@@ -22,7 +22,7 @@ pub(crate) fn serve<F: Files, S: Sink>(
 ) -> Result<(), Stop>
     ensures { Serves (Show file.now prefix.now)
         (files_change (F.files files.old) (F.faults files.old) (F.files files.new) (F.faults files.new))
-        (sink_change (S.held out.old) (S.faults out.old) (S.held out.new) (S.faults out.new)) result }
+        (sink_change (S.contents out.old) (S.faults out.old) (S.contents out.new) (S.faults out.new)) result }
 {
     let document = read_page(alloc, files, file, prefix)?;
     write(&document, out)

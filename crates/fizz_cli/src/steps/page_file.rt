@@ -8,6 +8,8 @@ ghost use Rattle.fizz_cli.specs.Feeding.{IsFedCause, IsPendingView, fault_of};
 ghost use Rattle.fizz_cli.specs.PageFiles.{RefusesPage, RefusesPageBytes, ShowsDocument, ShowsFile};
 ghost use Rattle.fizz_cli.specs.Reports.{files_change};
 ghost use Rattle.fizz_cli.specs.Steps.{AcceptsOrRefuses, ReadsFiles};
+ghost use Rattle.fizz_cli.specs.declared.refusal.PageFault.{PageFault as Cause};
+ghost use Rattle.fizz_cli.specs.declared.stop.OrMemory.{OrMemory as Reader};
 
 use super::read_file::read_file;
 use crate::refusal::{FileFault, PageFault, Refusal};
@@ -88,11 +90,15 @@ fn settle(alloc: Global, view: &View) -> Result<Doc, OrMemory<PageFault>>
 {
     match view.settled(alloc) {
         Ok(doc) => Ok(doc),
-        Err(SettledRefused::StillPending { count }) => Err(OrMemory::Fault(PageFault::StillPending {
-            count,
-        })),
+        Err(SettledRefused::StillPending { count }) => Err(still_pending(count)),
         Err(SettledRefused::OutOfMemory) => Err(OrMemory::NoMemory),
     }
+}
+
+fn still_pending(count: u64) -> OrMemory<PageFault>
+    ensures { result ≡ Reader.Fault (Cause.StillPending count) }
+{
+    OrMemory::Fault(PageFault::StillPending { count })
 }
 
 /// What the machine's fault refuses the page for.
