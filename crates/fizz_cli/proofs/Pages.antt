@@ -154,14 +154,11 @@ shows prefix bytes view nodes out s settled printed =
     (nodes, record { built = s.built; whole = s.run; settled = ap settled_of (sym s.is) ∙ settled }, printed)
 
 -- what is pending in the view is pending in the page
-pub pending_page : (prefix bytes : List ℕ) (view : Seen) (refusal : PageFault) → SeesWhole (nothing_run prefix) bytes view → IsPendingView (seen view.items) refusal → RefusesPageBytes prefix bytes refusal
-pending_page prefix bytes view (Html at) s p = absurd p
-pending_page prefix bytes view (UnknownFunction at) s p = absurd p
-pending_page prefix bytes view (NoSuchId at id) s p = absurd p
-pending_page prefix bytes view (NotBoundary at) s p = absurd p
-pending_page prefix bytes view (StillPending count) s p =
-    let q : IsPendingView (view_of prefix s.built.dom.forest) (StillPending count) = subst (λ (v : View). IsPendingView v (StillPending count)) s.is p in
-    record { built = s.built; whole = s.run; some = q.0; counts = q.1 }
+pub pending_page : (prefix bytes : List ℕ) (view : Seen) (found : PageFault) → SeesWhole (nothing_run prefix) bytes view → IsPendingView (seen view.items) found →
+    RefusesPageBytes prefix bytes found
+pending_page prefix bytes view found s p =
+    let q : IsPendingView (view_of prefix s.built.dom.forest) found = subst (λ (v : View). IsPendingView v found) s.is p in
+    subst (λ (f : PageFault). RefusesPageBytes prefix bytes f) (sym q.1) (record { built = s.built; whole = s.run; some = q.2; counts = q.3 })
 
 -- a page that has a settled document is not refused
 

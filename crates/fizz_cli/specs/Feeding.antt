@@ -27,10 +27,7 @@ IsFedCause prefix bytes (fault.NoSuchId at id) = HasMachineFault prefix at_first
 IsFedCause prefix bytes (fault.NotBoundary at) = HasMachineFault prefix at_first bytes (fault.NotBoundary at)
 IsFedCause prefix bytes fault.OutOfMemory = Unit {0}
 
--- So many boundaries of the view are pending.
+-- The fault is that so many boundaries of the view are pending.
 abbrev pub IsPendingView : View → PageFault → Type 0
-IsPendingView view (StillPending count) = (number_of is_pending view ≢ 0) × (count ≡ counted is_pending view)
-IsPendingView view (Html at) = ⊥
-IsPendingView view (UnknownFunction at) = ⊥
-IsPendingView view (NoSuchId at id) = ⊥
-IsPendingView view (NotBoundary at) = ⊥
+IsPendingView view found =
+    (count : ℕ) × (found ≡ StillPending count) × (number_of is_pending view ≢ 0) × (count ≡ counted is_pending view)
