@@ -42,15 +42,15 @@ abbrev pub after_dot : ℕ → List ℕ
 after_dot step = codes "." ++ decimal step
 
 -- the steps of a path, joined by dots
-abbrev pub dotted : List ℕ → List ℕ
-dotted [] = []
-dotted (first ∷ later) = decimal first ++ flat_map after_dot later
+abbrev pub steps_text : List ℕ → List ℕ
+steps_text [] = []
+steps_text (first ∷ later) = decimal first ++ flat_map after_dot later
 
 -- A number in decimals, a text as it is, the steps of a path joined by dots, the bytes of a hash in hexadecimal.
 abbrev pub value_text : Value → List ℕ
 value_text (number n) = decimal n
 value_text (words text) = text
-value_text (steps path) = dotted path
+value_text (steps path) = steps_text path
 value_text (hash bytes) = flat_map two_digits bytes
 
 -- a space, the name, `=`, the value
@@ -74,8 +74,8 @@ entry_of field = record { name = field.name.now; value = value_of field.value }
 abbrev pub bare : List ℕ → Row
 bare label = record { label = label; fields = [] }
 
-abbrev pub placed : List ℕ → ℕ → Row
-placed label at = record { label = label; fields = record { name = codes "at"; value = number at } ∷ [] }
+abbrev pub row_at : List ℕ → ℕ → Row
+row_at label at = record { label = label; fields = record { name = codes "at"; value = number at } ∷ [] }
 
 abbrev pub app_row : AppFault → Row
 app_row (app.NotUtf8 valid) = record { label = codes "NotUtf8"; fields = record { name = codes "valid"; value = number valid } ∷ [] }
@@ -85,13 +85,13 @@ abbrev pub script_row : ScriptFault → Row
 script_row script.Unbuilt = bare (codes "Unbuilt")
 
 abbrev pub page_row : PageFault → Row
-page_row (page.Html at) = placed (codes "Html") at
-page_row (page.UnknownFunction at) = placed (codes "UnknownFunction") at
+page_row (page.Html at) = row_at (codes "Html") at
+page_row (page.UnknownFunction at) = row_at (codes "UnknownFunction") at
 page_row (page.NoSuchId at id) = record {
   label = codes "NoSuchId";
   fields = record { name = codes "at"; value = number at } ∷ record { name = codes "id"; value = words id } ∷ [];
 }
-page_row (page.NotBoundary at) = placed (codes "NotBoundary") at
+page_row (page.NotBoundary at) = row_at (codes "NotBoundary") at
 page_row (page.StillPending count) =
     record { label = codes "StillPending"; fields = record { name = codes "count"; value = number count } ∷ [] }
 

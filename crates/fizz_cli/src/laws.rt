@@ -22,7 +22,8 @@ pub fn one_page()
 
 /// A law of documents: bytes are one document at most.
 pub fn one_document()
-    ensures { (prefix bytes : List ℕ) (a b : List Node) → IsUtf8 prefix → IsDocument prefix bytes a → IsDocument prefix bytes b → a ≡ b }
+    ensures { (prefix bytes : List ℕ) (a b : List Node) → IsUtf8 prefix →
+        IsDocument prefix bytes a → IsDocument prefix bytes b → a ≡ b }
 {
     laws_of_documents();
 }
@@ -43,7 +44,8 @@ pub fn laws_of_steps()
 /// most, so there is one note for it.
 pub fn laws_of_refusals(command: &Command)
     ensures accepted { (at : Contents) (cause : Cause) → Accepts at command.now → Refuses at command.now ⊥ cause → ⊥ }
-    ensures one { (at : Contents) (a b : Cause) → Refuses at command.now ⊥ a → Refuses at command.now ⊥ b → a ≡ b }
+    ensures one { (at : Contents) (a b : Cause) →
+        Refuses at command.now ⊥ a → Refuses at command.now ⊥ b → a ≡ b }
 {
     match command {
         Command::Render { .. } => {}

@@ -4,7 +4,7 @@ ghost use Rattle.std.specs.Prelude.{◌≡◌, ◌++◌, ◌<◌, IfOk, OnOk, co
 ghost use Rattle.std.specs.List.{flat_map};
 ghost use Rattle.std.specs.Fmt.{decimal};
 ghost use Rattle.std.specs.Char.{digit_char};
-ghost use Rattle.fizz_cli.specs.Notes.{after_dot, app_row, dotted, entry_of, entry_text, line_of, note_of, number, page_row, placed, row_of, row_text, script_row, two_digits, value_of, value_text, words};
+ghost use Rattle.fizz_cli.specs.Notes.{after_dot, app_row, steps_text, entry_of, entry_text, line_of, note_of, number, page_row, row_at, row_of, row_text, script_row, two_digits, value_of, value_text, words};
 
 use crate::refusal::{AppFault, FileFault, PageFault, Refusal, ScriptFault};
 use std::alloc::{AllocError, Global};
@@ -62,7 +62,8 @@ fn number_line(alloc: Global, label: &[u8], value: u64) -> Result<Vec<u8>, Alloc
 }
 
 fn file_line(alloc: Global, name: &[u8], fault: &FileFault) -> Result<Vec<u8>, AllocError>
-    ensures { IfOk result (λ note. note.items ≡ name.now ++ (codes ": " ++ (row_text (row_of fault.now) ++ codes "\n"))) }
+    ensures { IfOk result (λ note. note.items
+        ≡ name.now ++ (codes ": " ++ (row_text (row_of fault.now) ++ codes "\n"))) }
 {
     let mut note = Vec::new(alloc);
     note.extend_from_slice(name)?;
@@ -135,7 +136,7 @@ fn push_page_fault(alloc: Global, note: &mut Vec<u8>, fault: &PageFault) -> Resu
 
 /// A label with a place.
 fn push_placed(alloc: Global, note: &mut Vec<u8>, label: &str, at: usize) -> Result<(), AllocError>
-    ensures { OnOk result (note.new.items ≡ note.old.items ++ row_text (placed label.now at)) }
+    ensures { OnOk result (note.new.items ≡ note.old.items ++ row_text (row_at label.now at)) }
 {
     push_row(alloc, note, label, &[count_field("at", at as u64)])
 }
@@ -165,7 +166,8 @@ fn push_row(
     label: &str,
     fields: &[Field<'_>],
 ) -> Result<(), AllocError>
-    ensures { OnOk result (note.new.items ≡ note.old.items ++ (label.now ++ flat_map entry_text (map entry_of fields.now))) }
+    ensures { OnOk result (note.new.items
+        ≡ note.old.items ++ (label.now ++ flat_map entry_text (map entry_of fields.now))) }
 {
     note.extend_from_slice(label.as_bytes())?;
     for field in fields {
@@ -203,7 +205,7 @@ fn push_number(alloc: Global, note: &mut Vec<u8>, number: u64) -> Result<(), All
 
 /// The steps of a path, joined by dots.
 fn push_steps(alloc: Global, note: &mut Vec<u8>, steps: &[u32]) -> Result<(), AllocError>
-    ensures { OnOk result (note.new.items ≡ note.old.items ++ dotted steps.now) }
+    ensures { OnOk result (note.new.items ≡ note.old.items ++ steps_text steps.now) }
 {
     match steps.split_first() {
         Some((first, later)) => {

@@ -86,7 +86,8 @@ fn feed_all(machine: &mut Machine, bytes: &[u8]) -> Result<(), MachineFault>
 
 /// The settled document of a view.
 fn settle(alloc: Global, view: &View) -> Result<Doc, OrMemory<PageFault>>
-    ensures { AcceptsOrRefuses (λ doc. settled_of (seen view.now.items) ≡ Some doc.nodes) (IsPendingView (seen view.now.items)) result }
+    ensures { AcceptsOrRefuses (λ doc. settled_of (seen view.now.items) ≡ Some doc.nodes)
+        (IsPendingView (seen view.now.items)) result }
 {
     match view.settled(alloc) {
         Ok(doc) => Ok(doc),
