@@ -5,32 +5,15 @@ ghost use Rattle.std.specs.Str.{IsUtf8};
 ghost use Rattle.fizz_text.specs.Ascii.{quotation_mark, space};
 ghost use Rattle.html_names.specs.Names.{is_name_byte};
 ghost use Rattle.html_read.specs.Names.{IsTagName};
-ghost use Rattle.html_read.specs.Building.{prefix_len, IsTokenOf, IsTextOf, IsAttributeOf, AreAttributesOf, IsTextTokenOf, IsEndOf, IsCommentOf, IsScriptOf, IsTagOf};
+ghost use Rattle.html_read.specs.Building.{IsTokenOf, IsTextOf, IsAttributeOf, AreAttributesOf, IsTextTokenOf, IsEndOf, IsCommentOf, IsScriptOf, IsTagOf};
+ghost use Rattle.html_read.specs.Machine.{prefix_len};
 
+use crate::machine::name_len;
 use crate::token::{Body, Token};
 use crate::words::after;
 use fizz_text::{Attr, Attributes, OutOfMemory, Text};
 use html_names::{EntityFault, comment, element, unescape};
 use std::alloc::Global;
-
-fn continues_name(byte: u8) -> bool
-    ensures { result ≡ is_name_byte byte }
-{
-    matches!(byte, b'A'..=b'Z' | b'a'..=b'z' | b'0'..=b'9' | b'-')
-}
-
-/// How many bytes at the start may stand in an attribute's name.
-fn name_len(bytes: &[u8]) -> usize
-    ensures value { result ≡ prefix_len is_name_byte bytes.now }
-    ensures within { result ≤ length bytes.now }
-{
-    for (len, byte) in bytes.iter().enumerate() {
-        if !continues_name(*byte) {
-            return len;
-        }
-    }
-    bytes.len()
-}
 
 /// How many bytes stand before the first `"`.
 fn value_len(bytes: &[u8]) -> usize
