@@ -52,11 +52,32 @@ fn tag_name(name: &[u8]) -> Option<Text>
     }
 }
 
-/// The text that the bytes are.
-fn text_from(alloc: Global, bytes: &[u8]) -> Result<Option<Text>, OutOfMemory>
-    ensures { IfOk result (λ text. IsUtf8 bytes.now → text ≡ Some bytes.now) }
+/// The name of an attribute, as a text. It is copied only where it is no name that pages often have.
+fn attribute_name(alloc: Global, name: &[u8]) -> Result<Option<Text>, OutOfMemory>
+    ensures { IfOk result (λ text. IsUtf8 name.now → text ≡ Some name.now) }
 {
-    Ok(Text::from_bytes(Vec::from_slice(alloc, bytes)?).ok())
+    match common_name(name) {
+        Some(common) => Ok(Some(Text::fixed(common))),
+        None => Ok(Text::from_bytes(Vec::from_slice(alloc, name)?).ok()),
+    }
+}
+
+fn common_name(name: &[u8]) -> Option<&'static str>
+    ensures { IfSome result (λ common. common.now ≡ name.now) }
+{
+    match name {
+        b"class" => Some("class"),
+        b"data-dgst" => Some("data-dgst"),
+        b"dir" => Some("dir"),
+        b"disabled" => Some("disabled"),
+        b"hidden" => Some("hidden"),
+        b"href" => Some("href"),
+        b"id" => Some("id"),
+        b"lang" => Some("lang"),
+        b"role" => Some("role"),
+        b"title" => Some("title"),
+        _ => None,
+    }
 }
 
 /// The attribute at the start, and its length.
@@ -70,7 +91,7 @@ fn attribute_at(alloc: Global, bytes: &[u8]) -> Result<Option<(Attr, usize)>, Ou
         return Ok(None);
     };
     let (name, rest) = named.split_at(name_len(named));
-    let Some(name) = text_from(alloc, name)? else {
+    let Some(name) = attribute_name(alloc, name)? else {
         return Ok(None);
     };
     let Some(quoted) = rest.strip_prefix(b"=\"") else {
