@@ -18,7 +18,8 @@ use Rattle.html_read.specs.Names.{IsTagName, IsAttributeName}
 use Rattle.html_names.specs.Printing.{value_spelling, attribute_spelling, attributes_spelling, tag_prefix}
 use Rattle.html_read.specs.Tokens.{HasValue, IsAttribute, AreAttributes}
 use Rattle.html_read.specs.Faults.{begins_tag}
-use Rattle.html_read.specs.Building.{prefix_len, IsTokenOf, EndsAttribute, EndsTag, IsAttributeOf, AreAttributesOf, IsTextTokenOf, IsEndOf, IsCommentOf, IsScriptOf, IsTagOf}
+use Rattle.html_read.specs.Building.{IsTokenOf, EndsAttribute, EndsTag, IsAttributeOf, AreAttributesOf, IsTextTokenOf, IsEndOf, IsCommentOf, IsScriptOf, IsTagOf}
+use Rattle.html_read.specs.Machine.{prefix_len}
 use Rattle.html_read.proofs.WordLemmas.{none_true, is_word_byte, is_name_word, begins_with_letter, tag_name_bytes, tag_name_letter, tag_name_not_script, tag_of_flag, flag_of_void}
 use Rattle.html_read.proofs.QuotedLemmas.{no_quote, all_weaken, escaped_no_quote}
 use Rattle.html_read.proofs.StandsLemmas.{escaped_no_tag}

@@ -21,7 +21,8 @@ use Rattle.html_names.specs.Printing.{value_spelling, attribute_spelling, attrib
 use Rattle.html_names.specs.Comments.{comment_data}
 use Rattle.html_read.specs.Tokens.{IsAttribute, AreAttributes, script_end, spelling, spellings, IsToken, AreTokensFrom, MayFollow, AreTokens, Tokenizes, place_of, is_text}
 use Rattle.html_read.specs.Faults.{begins_tag, ends_in_text, IsBegun, Splits}
-use Rattle.html_read.specs.Building.{prefix_len, IsTokenOf, EndsAttribute, EndsTag, IsTagOf}
+use Rattle.html_read.specs.Building.{IsTokenOf, EndsAttribute, EndsTag, IsTagOf}
+use Rattle.html_read.specs.Machine.{prefix_len}
 use Rattle.html_read.specs.Machine.{go_on, mode_after}
 use Rattle.html_read.proofs.WordLemmas.{none_true, tag_of_flag, flag_of_void}
 use Rattle.html_read.proofs.ModeAfterLemmas.{transition_at}

@@ -1,5 +1,5 @@
 -- A walk over the bytes of a piece keeps where the reader stands.
-use Rattle.std.proofs.Common.{◌≡◌, ℕ, ◌+◌, ◌-◌, ◌<◌, ◌≤◌, true, false, Option, Some, None, Result, Ok, Err, List, [], ◌∷◌, ◌++◌, length, drop, take, refl, sym, ◌∙◌, ap, subst, arith, append-nil, append_assoc, length-append}
+use Rattle.std.proofs.Common.{◌≡◌, ℕ, ◌+◌, ◌-◌, ◌<◌, ◌≤◌, true, false, Option, Some, None, Result, Ok, Err, List, [], ◌∷◌, ◌++◌, length, drop, take, get_or, refl, sym, ◌∙◌, ap, subst, arith, append-nil, append_assoc, length-append}
 use Rattle.std.specs.Prelude.{slice_range, slice_index, option_to_list}
 use Rattle.std.proofs.lemmas.List.{take_at, drop_at, take_all, drop_all, take_more, drop_more, drop-take, drop-append-le, length-take-le, length-drop, take-append-drop, get_or_at}
 use Rattle.html_read.specs.declared.token.Token.{Token}
@@ -12,7 +12,7 @@ use Rattle.html_read.specs.declared.machine.Transition.TheVariants.{Goes, Ends, 
 use Rattle.html_read.specs.declared.walk.At.{At}
 use Rattle.html_read.specs.Tokens.{spelling, spellings}
 use Rattle.html_read.specs.Faults.{Splits, HasFault, HasKind}
-use Rattle.html_read.specs.Machine.{transition_of, mode_of}
+use Rattle.html_read.specs.Machine.{AllStay, transition_of, mode_of}
 use Rattle.html_read.specs.Building.{IsTokenOf}
 use Rattle.html_read.specs.Scanning.{IsStepBy, IsStep, Finds}
 use Rattle.html_read.proofs.FitsLemmas.{IsSpelling}
@@ -78,6 +78,29 @@ goes_step bytes start mode place tokens from now next i w m t =
             h.1,
           );
     }
+
+-- A run of bytes that leave the mode as it is.
+pub walk_run : (bytes : List ℕ) (start : ℕ) (mode : Mode) (place : ℕ) (tokens : List Token) (from : ℕ) (now : Mode) (i : ℕ) (run more : List ℕ)
+    → Walks bytes start mode place tokens from now i → drop i bytes ≡ run ++ more → AllStay now run
+    → Walks bytes start mode place tokens from now (i + length run)
+walk_run bytes start mode place tokens from now i [] more w e stays = subst (Walks bytes start mode place tokens from now) (omega arith) w
+walk_run bytes start mode place tokens from now i (b ∷ run) more w e stays =
+    let inside : i < length bytes = omega (arith, ap length e, length-drop i bytes) in
+    let here : slice_index bytes i ∷ drop (i + 1) bytes ≡ b ∷ (run ++ more) = sym (drop_more bytes i 0 inside) ∙ e in
+    let byte : slice_index bytes i ≡ b = ap (λ xs. get_or xs 0 0) here in
+    let later : drop (i + 1) bytes ≡ run ++ more = ap (drop 1) here in
+    let next : Walks bytes start mode place tokens from now (i + 1) =
+    goes_step bytes start mode place tokens from now now i w inside
+    (subst (λ x. transition_of now (drop from (take i bytes)) (drop from (take i bytes) ++ x ∷ []) x ≡ Goes now) (sym byte) (stays.0 (drop from (take i bytes)))) in
+    subst (Walks bytes start mode place tokens from now) (omega arith) (walk_run bytes start mode place tokens from now (i + 1) run more next later stays.1)
+
+pub walk_skip : (bytes : List ℕ) (start : ℕ) (mode : Mode) (place : ℕ) (tokens : List Token) (from : ℕ) (now : Mode) (i : ℕ) (rest : List ℕ) (n : ℕ)
+    → Walks bytes start mode place tokens from now i → rest ≡ drop i bytes → n ≤ length rest → AllStay now (take n rest)
+    → Walks bytes start mode place tokens from now (i + n)
+walk_skip bytes start mode place tokens from now i rest n w e l stays =
+    let whole : drop i bytes ≡ take n rest ++ drop n rest = sym e ∙ sym (take-append-drop n rest) in
+    subst (λ k. Walks bytes start mode place tokens from now (i + k)) (length-take-le n rest l)
+    (walk_run bytes start mode place tokens from now i (take n rest) (drop n rest) w whole stays)
 
 one_more : (tokens : List Token) (tok : Token) (found : Option Token) → found ≡ Some tok → tokens ++ option_to_list found ≡ tokens ++ tok ∷ []
 one_more tokens tok found e = ap (λ o. tokens ++ option_to_list o) e

@@ -1,5 +1,5 @@
 -- What the private functions that build tokens find in the bytes of a whole token. No public clause rests on this file.
-use Rattle.std.specs.Prelude.{◌≡◌, ◌≢◌, ℕ, suc, Bool, false, if◌then◌else◌, Option, Some, List, [], ◌∷◌, ◌++◌, length}
+use Rattle.std.specs.Prelude.{◌≡◌, ◌≢◌, ℕ, false, Option, Some, List, [], ◌∷◌, ◌++◌, length}
 use Rattle.std.specs.Str.{IsUtf8}
 use Rattle.fizz_text.specs.declared.attribute.Attr.{Attr}
 use Rattle.fizz_text.specs.Ascii.{equals_sign, space}
@@ -11,11 +11,6 @@ use Rattle.html_names.specs.Names.{is_name_byte}
 use Rattle.html_read.specs.Names.{IsTagName}
 use Rattle.html_names.specs.Printing.{attribute_spelling, attributes_spelling}
 use Rattle.html_read.specs.Tokens.{spelling, place_of, IsToken, IsAttribute, AreAttributes}
-
--- how many bytes at the start pass the test
-abbrev pub prefix_len : (ℕ → Bool) → List ℕ → ℕ
-prefix_len test [] = 0
-prefix_len test (b ∷ bs) = if test b then suc (prefix_len test bs) else 0
 
 -- Whatever token has these bytes and this place is the one found.
 abbrev pub IsTokenOf : List ℕ → ℕ → Option Token → Type 0

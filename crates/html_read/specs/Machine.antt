@@ -1,5 +1,5 @@
 -- What the reader's step does, for its private functions. No public clause rests on this file.
-use Rattle.std.specs.Prelude.{ℕ, ◌-◌, Bool, true, false, if◌then◌else◌, ◌&&◌, ◌||◌, ◌==◌, nat_eq, nat_lt, nat_le, Option, Some, None, Result, Ok, Err, is_ok, List, [], ◌∷◌, ◌++◌, length, drop, map, codes}
+use Rattle.std.specs.Prelude.{◌≡◌, ℕ, suc, not, ◌-◌, Bool, true, false, if◌then◌else◌, ◌&&◌, ◌||◌, ◌==◌, nat_eq, nat_lt, nat_le, Option, Some, None, Result, Ok, Err, is_ok, List, [], ◌∷◌, ◌++◌, length, drop, map, codes}
 use Rattle.std.specs.List.{list_any, starts_with, ends_with}
 use Rattle.std.specs.Str.{bytes_eq}
 use Rattle.fizz_text.specs.Ascii.{ampersand, ascii_end, equals_sign, exclamation_mark, greater_than_sign, less_than_sign, quotation_mark, slash, space}
@@ -168,6 +168,28 @@ transition_of (Equals v) seen token b = equals_transition v b
 transition_of (Value v place) seen token b = value_transition v b (place_after place token b)
 transition_of (Close v) seen token b = close_transition v b
 transition_of Slash seen token b = slash_transition b
+
+-- how many bytes at the start pass the test
+abbrev pub prefix_len : (ℕ → Bool) → List ℕ → ℕ
+prefix_len test [] = 0
+prefix_len test (b ∷ bs) = if test b then suc (prefix_len test bs) else 0
+
+-- an ASCII character that is written as itself
+abbrev pub is_plain : ℕ → Bool
+is_plain b = nat_lt b ascii_end && not (b == ampersand || is_mark b)
+
+abbrev pub plain_len_at : Place → List ℕ → ℕ
+plain_len_at Whole rest = prefix_len is_plain rest
+plain_len_at (Char tail) rest = 0
+plain_len_at (Entity start) rest = 0
+
+-- the byte leaves the mode as it is, whatever came of the token before it
+abbrev pub Stays : Mode → ℕ → Type 0
+Stays mode b = (seen : List ℕ) → transition_of mode seen (seen ++ b ∷ []) b ≡ Goes mode
+
+abbrev pub AllStay : Mode → List ℕ → Type 0
+AllStay mode [] = Unit {0}
+AllStay mode (b ∷ bs) = Stays mode b × AllStay mode bs
 
 -- the mode after bytes that all go on with one token
 abbrev pub go_on : Transition → (Mode → Option Mode) → Option Mode

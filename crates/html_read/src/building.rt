@@ -5,32 +5,15 @@ ghost use Rattle.std.specs.Str.{IsUtf8};
 ghost use Rattle.fizz_text.specs.Ascii.{quotation_mark, space};
 ghost use Rattle.html_names.specs.Names.{is_name_byte};
 ghost use Rattle.html_read.specs.Names.{IsTagName};
-ghost use Rattle.html_read.specs.Building.{prefix_len, IsTokenOf, IsTextOf, IsAttributeOf, AreAttributesOf, IsTextTokenOf, IsEndOf, IsCommentOf, IsScriptOf, IsTagOf};
+ghost use Rattle.html_read.specs.Building.{IsTokenOf, IsTextOf, IsAttributeOf, AreAttributesOf, IsTextTokenOf, IsEndOf, IsCommentOf, IsScriptOf, IsTagOf};
+ghost use Rattle.html_read.specs.Machine.{prefix_len};
 
+use crate::machine::name_len;
 use crate::token::{Body, Token};
 use crate::words::after;
 use fizz_text::{Attr, Attributes, OutOfMemory, Text};
 use html_names::{EntityFault, comment, element, unescape};
 use std::alloc::Global;
-
-fn continues_name(byte: u8) -> bool
-    ensures { result ≡ is_name_byte byte }
-{
-    matches!(byte, b'A'..=b'Z' | b'a'..=b'z' | b'0'..=b'9' | b'-')
-}
-
-/// How many bytes at the start may stand in an attribute's name.
-fn name_len(bytes: &[u8]) -> usize
-    ensures value { result ≡ prefix_len is_name_byte bytes.now }
-    ensures within { result ≤ length bytes.now }
-{
-    for (len, byte) in bytes.iter().enumerate() {
-        if !continues_name(*byte) {
-            return len;
-        }
-    }
-    bytes.len()
-}
 
 /// How many bytes stand before the first `"`.
 fn value_len(bytes: &[u8]) -> usize
@@ -69,11 +52,32 @@ fn tag_name(name: &[u8]) -> Option<Text>
     }
 }
 
-/// The text that the bytes are.
-fn text_from(alloc: Global, bytes: &[u8]) -> Result<Option<Text>, OutOfMemory>
-    ensures { IfOk result (λ text. IsUtf8 bytes.now → text ≡ Some bytes.now) }
+/// The name of an attribute, as a text. It is copied only where it is no name that pages often have.
+fn attribute_name(alloc: Global, name: &[u8]) -> Result<Option<Text>, OutOfMemory>
+    ensures { IfOk result (λ text. IsUtf8 name.now → text ≡ Some name.now) }
 {
-    Ok(Text::from_bytes(Vec::from_slice(alloc, bytes)?).ok())
+    match common_name(name) {
+        Some(common) => Ok(Some(Text::fixed(common))),
+        None => Ok(Text::from_bytes(Vec::from_slice(alloc, name)?).ok()),
+    }
+}
+
+fn common_name(name: &[u8]) -> Option<&'static str>
+    ensures { IfSome result (λ common. common.now ≡ name.now) }
+{
+    match name {
+        b"class" => Some("class"),
+        b"data-dgst" => Some("data-dgst"),
+        b"dir" => Some("dir"),
+        b"disabled" => Some("disabled"),
+        b"hidden" => Some("hidden"),
+        b"href" => Some("href"),
+        b"id" => Some("id"),
+        b"lang" => Some("lang"),
+        b"role" => Some("role"),
+        b"title" => Some("title"),
+        _ => None,
+    }
 }
 
 /// The attribute at the start, and its length.
@@ -87,7 +91,7 @@ fn attribute_at(alloc: Global, bytes: &[u8]) -> Result<Option<(Attr, usize)>, Ou
         return Ok(None);
     };
     let (name, rest) = named.split_at(name_len(named));
-    let Some(name) = text_from(alloc, name)? else {
+    let Some(name) = attribute_name(alloc, name)? else {
         return Ok(None);
     };
     let Some(quoted) = rest.strip_prefix(b"=\"") else {

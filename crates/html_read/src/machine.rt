@@ -1,7 +1,7 @@
 //! One step of the reader: a byte, and where the reader stands after it.
 
-ghost use Rattle.std.specs.Prelude.{◌≡◌, ◌<◌, ◌++◌, ◌∷◌, [], drop, length};
-ghost use Rattle.html_read.specs.Machine.{text_transition, value_transition, close_transition, flag_transition, after_name, name_transition, end_name_transition, comment_transition, script_transition, space_transition, attribute_transition, equals_transition, slash_transition, transition_of, is_whole_text};
+ghost use Rattle.std.specs.Prelude.{◌≡◌, ◌<◌, ◌≤◌, take, ◌++◌, ◌∷◌, [], drop, length};
+ghost use Rattle.html_read.specs.Machine.{text_transition, value_transition, close_transition, flag_transition, after_name, name_transition, end_name_transition, comment_transition, script_transition, space_transition, attribute_transition, equals_transition, slash_transition, transition_of, is_whole_text, AllStay, is_plain, plain_len_at, prefix_len};
 ghost use Rattle.html_names.specs.Names.{is_letter, is_digit, is_name_byte};
 
 use crate::fault::ReadKind;
@@ -210,6 +210,67 @@ fn attribute_transition(is_void: bool, start: usize, name: &[u8], byte: u8) -> T
     } else {
         Transition::Fails(ReadKind::Attribute)
     }
+}
+
+/// How many bytes at the start of `rest` leave the mode as it is, whatever came before them: a run of plain text, or the
+/// name of an attribute. In the other modes it looks at no byte.
+pub fn run_len(mode: Mode, rest: &[u8]) -> usize
+    ensures within { result ≤ length rest.now }
+    ensures stays { AllStay mode (take result rest.now) }
+{
+    match mode {
+        Mode::Text(place) => plain_len_at(place, rest),
+        Mode::Value { is_void: _, place } => plain_len_at(place, rest),
+        Mode::Attribute {
+            is_void: _,
+            start: _,
+        } => name_len(rest),
+        _ => 0,
+    }
+}
+
+/// How many bytes at the start may stand in an attribute's name.
+pub fn name_len(bytes: &[u8]) -> usize
+    ensures value { result ≡ prefix_len is_name_byte bytes.now }
+    ensures within { result ≤ length bytes.now }
+{
+    for (len, byte) in bytes.iter().enumerate() {
+        if !is_name_byte(*byte) {
+            return len;
+        }
+    }
+    bytes.len()
+}
+
+/// The same of plain text alone, where it stands between two characters.
+fn plain_len_at(place: Place, rest: &[u8]) -> usize
+    ensures value { result ≡ plain_len_at place rest.now }
+    ensures within { result ≤ length rest.now }
+{
+    match place {
+        Place::Whole => plain_len(rest),
+        Place::Char(_) => 0,
+        Place::Entity { start: _ } => 0,
+    }
+}
+
+/// How many bytes at the start are ASCII characters that are written as themselves.
+fn plain_len(bytes: &[u8]) -> usize
+    ensures value { result ≡ prefix_len is_plain bytes.now }
+    ensures within { result ≤ length bytes.now }
+{
+    for (len, byte) in bytes.iter().enumerate() {
+        if !is_plain(*byte) {
+            return len;
+        }
+    }
+    bytes.len()
+}
+
+fn is_plain(byte: u8) -> bool
+    ensures { result ≡ is_plain byte }
+{
+    byte < 0x80 && !matches!(byte, b'&' | b'"' | b'\'' | b'<' | b'>')
 }
 
 /// The byte is the token's last so far, and `seen` is the token before it.

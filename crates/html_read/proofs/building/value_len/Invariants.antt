@@ -1,5 +1,5 @@
 use Rattle.std.proofs.Common.{◌≡◌, ◌+◌, ◌==◌, not, drop}
-use Rattle.html_read.specs.Building.{prefix_len}
+use Rattle.html_read.specs.Machine.{prefix_len}
 use Rattle.html_read.proofs.building.value_len.Given as goal
 
 -- what is left gives the rest of the length

@@ -1,7 +1,7 @@
 use Rattle.std.proofs.Common.{◌≡◌, ◌+◌, drop}
-use Rattle.html_read.specs.Building.{prefix_len}
+use Rattle.html_read.specs.Machine.{prefix_len}
 use Rattle.html_names.specs.Names.{is_name_byte}
-use Rattle.html_read.proofs.building.name_len.Given as goal
+use Rattle.html_read.proofs.machine.name_len.Given as goal
 
 -- what is left gives the rest of the length
 abbrev pub invariant-loop-len : goal.invariant-loop-len
