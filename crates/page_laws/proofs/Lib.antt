@@ -1,0 +1,13 @@
+pub mod NodesLemmas
+pub mod Contexts
+pub mod IdsLemmas
+pub mod Turned
+pub mod PagesLemmas
+pub mod PageEditsLemmas
+pub mod DocumentsLemmas
+pub mod MachineEdits
+pub mod Filling
+pub mod Completing
+pub mod StreamedEdits
+pub mod FindLemmas
+pub mod JoinsLemmas

@@ -1,0 +1,7 @@
+pub mod Nodes
+pub mod Pages
+pub mod PageEdits
+pub mod Documents
+pub mod Balance
+pub mod DocumentEdits
+pub mod Examples

@@ -1,0 +1,13 @@
+//! Laws of pages: documents without the ids of their nodes, pages whose boundaries are wholes, and that the page's
+//! instructions edit them at the one place of an id.
+#![tactic(auto)]
+
+mod edits;
+mod finding;
+mod joins;
+#[cfg(test)]
+mod tests;
+
+pub use edits::{laws_of_absent_ids, laws_of_edits};
+pub use finding::{laws_of_finding, laws_of_page_ids};
+pub use joins::{laws_of_joins, laws_of_page_joins};
