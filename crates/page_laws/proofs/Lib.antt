@@ -11,3 +11,5 @@ pub mod Completing
 pub mod StreamedEdits
 pub mod FindLemmas
 pub mod JoinsLemmas
+pub mod ViewsLemmas
+pub mod PageViewsLemmas

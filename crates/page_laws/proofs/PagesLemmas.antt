@@ -75,11 +75,11 @@ closes_all-page prefix (client i d k l) more n = closes_all-to_end prefix k l mo
 pub page_balanced : (prefix : List ℕ) (page : Page) → IsBalanced (page_nodes prefix page)
 page_balanced prefix page = ap (λ n. closes_all n 0) (sym (joined_nodes-none (page_nodes prefix page))) ∙ closes_all-page prefix page none 0
 
-both_true : (a b : Bool) → (a && b) ≡ true → (a ≡ true) × (b ≡ true)
+pub both_true : (a b : Bool) → (a && b) ≡ true → (a ≡ true) × (b ≡ true)
 both_true true b e = (refl, e)
 both_true false b e = absurd (let z : false ≡ true = e in cc)
 
-not_zero : (k : ℕ) → not (k == 0) ≡ true → (j : ℕ) × (k ≡ j + 1)
+pub not_zero : (k : ℕ) → not (k == 0) ≡ true → (j : ℕ) × (k ≡ j + 1)
 not_zero zero e = absurd (let z : false ≡ true = e in cc)
 not_zero (suc j) e = (j, omega arith)
 

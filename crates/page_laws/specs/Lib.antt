@@ -5,3 +5,4 @@ pub mod Documents
 pub mod Balance
 pub mod DocumentEdits
 pub mod Examples
+pub mod PageViews

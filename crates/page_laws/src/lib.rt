@@ -7,7 +7,9 @@ mod finding;
 mod joins;
 #[cfg(test)]
 mod tests;
+mod views;
 
 pub use edits::{laws_of_absent_ids, laws_of_edits};
 pub use finding::{laws_of_finding, laws_of_page_ids};
 pub use joins::{laws_of_joins, laws_of_page_joins};
+pub use views::{laws_of_ends, laws_of_joined_views, laws_of_page_views};
