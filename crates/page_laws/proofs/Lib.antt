@@ -13,3 +13,5 @@ pub mod FindLemmas
 pub mod JoinsLemmas
 pub mod ViewsLemmas
 pub mod PageViewsLemmas
+pub mod RevealsLemmas
+pub mod PageRevealsLemmas

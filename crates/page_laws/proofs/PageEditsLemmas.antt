@@ -136,11 +136,11 @@ module _ (p b : ℕ → ℕ) (f : ℕ → Page → Page) (g : ℕ → Page → P
 
 -- The three edits
 
-at_one : (h i : ℕ) (b : Bool) → (i == h) ≡ b → one b ≡ 1 → i ≡ h
+pub at_one : (h i : ℕ) (b : Bool) → (i == h) ≡ b → one b ≡ 1 → i ≡ h
 at_one h i true e o = eqb-true i h e
 at_one h i false e o = absurd (omega arith)
 
-at_none : (h i : ℕ) (b : Bool) → (i == h) ≡ b → one b ≡ 0 → (i == h) ≡ false
+pub at_none : (h i : ℕ) (b : Bool) → (i == h) ≡ b → one b ≡ 0 → (i == h) ≡ false
 at_none h i true e z = absurd (omega arith)
 at_none h i false e z = e
 

@@ -6,3 +6,4 @@ pub mod Balance
 pub mod DocumentEdits
 pub mod Examples
 pub mod PageViews
+pub mod NodeReveals

@@ -5,11 +5,13 @@
 mod edits;
 mod finding;
 mod joins;
+mod reveals;
 #[cfg(test)]
 mod tests;
 mod views;
 
-pub use edits::{laws_of_absent_ids, laws_of_edits};
+pub use edits::{laws_of_absent_ids, laws_of_clean_pages, laws_of_edits, laws_of_weights};
 pub use finding::{laws_of_finding, laws_of_page_ids};
 pub use joins::{laws_of_joins, laws_of_page_joins};
+pub use reveals::{laws_of_kept_reveals, laws_of_reveals};
 pub use views::{laws_of_ends, laws_of_joined_views, laws_of_page_views};
