@@ -8,11 +8,11 @@ use Rattle.std.proofs.lemmas.List.{append_assoc}
 use Rattle.fizz_text.specs.declared.attribute.Attr.{Attr}
 use Rattle.fizz_text.specs.Hexadecimal.{hexadecimal}
 use Rattle.html_names.specs.Attributes.{is_reserved}
-use Rattle.html_names.proofs.PlainNames.{reserved_after}
+use Rattle.html_names.proofs.NamesLemmas.{reserved_after}
 use Rattle.dom_forest.specs.Ids.{gives_id, is_value}
 use Rattle.fizz_instructions.specs.Bodies.{id_of, boundary_id, segment_id, placeholder_id}
-use Rattle.fizz_instructions.proofs.Ids.{same_id}
-use Rattle.fizz_instructions.proofs.Lists.{same_after}
+use Rattle.fizz_instructions.proofs.IdsLemmas.{same_id}
+use Rattle.fizz_instructions.proofs.ListLemmas.{same_after}
 use Rattle.page_laws.specs.Pages.{is_reserved_id}
 
 pub never_true : (b : Bool) → (b ≡ true → ⊥) → b ≡ false

@@ -10,7 +10,7 @@ use Rattle.fizz_text.specs.declared.attribute.Attr.{Attr}
 use Rattle.fizz_text.specs.Hexadecimal.{hexadecimal}
 use Rattle.html_names.specs.Names.{begins_with}
 use Rattle.html_names.specs.Attributes.{is_reserved}
-use Rattle.html_names.proofs.PlainNames.{reserved_after}
+use Rattle.html_names.proofs.NamesLemmas.{reserved_after}
 use Rattle.dom_forest.specs.Edits.{DomState, renumbered}
 use Rattle.dom_forest.specs.Forest.{Forest, empty, tree, joined}
 use Rattle.dom_forest.specs.declared.node.Mark.TheVariants.{Complete, Pending, Client, End, Space}

@@ -14,7 +14,7 @@ use Rattle.dom_forest.specs.declared.node.Mark.TheVariants.{Complete, Pending, C
 use Rattle.dom_forest.specs.declared.node.NewNode.{NewNode}
 use Rattle.dom_forest.specs.declared.node.NewNode.TheVariants.{Element, Text, Comment}
 use Rattle.fizz_instructions.specs.Bodies.{boundary_id}
-use Rattle.fizz_instructions.proofs.Lists.{same_after}
+use Rattle.fizz_instructions.proofs.ListLemmas.{same_after}
 use Rattle.document_machine.specs.Reveals.{RevealsWhole, has_placeholder_before, is_placeholder, is_placeholder_id}
 use Rattle.page_laws.specs.Balance.{IsBalanced, closes_all}
 use Rattle.page_laws.specs.Documents.{Container, StreamedDocument, AreClean, container_element, container_nodes, document_nodes}
