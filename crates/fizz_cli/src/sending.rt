@@ -16,7 +16,7 @@ pub(crate) const NO_MEMORY: u8 = 8;
 
 /// SendsAll bytes to a sink, and ends with the status unless the sink refuses.
 pub(crate) fn send<S: Sink>(status: u8, bytes: &[u8], sink: &mut S) -> u8
-    ensures sent { SendsAll status bytes.now (S.held sink.old) (S.held sink.new) (FaultCounted (S.faults sink.old) (S.faults sink.new)) result }
+    ensures sent { SendsAll status bytes.now (S.contents sink.old) (S.contents sink.new) (FaultCounted (S.faults sink.old) (S.faults sink.new)) result }
     ensures later { S.faults sink.old ≤ S.faults sink.new }
 {
     match sink.write_all(bytes) {
@@ -33,7 +33,7 @@ pub(crate) fn tell<N: Sink>(
     refusal: &Refusal,
     notes: &mut N,
 ) -> u8
-    ensures sent { SendsAll (status_of refusal.now) (note_of command.now refusal.now) (N.held notes.old) (N.held notes.new)
+    ensures sent { SendsAll (status_of refusal.now) (note_of command.now refusal.now) (N.contents notes.old) (N.contents notes.new)
         (FaultCounted (N.faults notes.old) (N.faults notes.new)) result }
     ensures later { N.faults notes.old ≤ N.faults notes.new }
 {

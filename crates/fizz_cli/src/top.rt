@@ -29,14 +29,14 @@ pub fn fizz_inline<F: Files, S: Sink, N: Sink>(
 ) -> u8
     requires { IsInline command.now }
     ensures same { F.files files.new ≡ F.files files.old }
-    ensures settled { result ≡ 0 → WritesOutput (F.files files.old) command.now (S.held out.old) (S.held out.new)
-        × Keeps (N.held notes.old) (N.held notes.new) }
+    ensures settled { result ≡ 0 → WritesOutput (F.files files.old) command.now (S.contents out.old) (S.contents out.new)
+        × Keeps (N.contents notes.old) (N.contents notes.new) }
     ensures told { (result ≡ 3) ⊎ (result ≡ 4) → (refusal : Refusal) × (status_of refusal ≡ result)
         × Tells (F.files files.old) command.now (FaultCounted (F.faults files.old) (F.faults files.new))
-        (S.held out.old) (S.held out.new) (N.held notes.old) (N.held notes.new) refusal }
+        (S.contents out.old) (S.contents out.new) (N.contents notes.old) (N.contents notes.new) refusal }
     ensures failed { result ≡ 7 → FaultCounted (S.faults out.old) (S.faults out.new) ⊎ FaultCounted (N.faults notes.old) (N.faults notes.new) }
     ensures cut { (result ≡ 7) ⊎ (result ≡ 8) → IsCut (F.files files.old) command.now (FaultCounted (F.faults files.old) (F.faults files.new))
-        (S.held out.old) (S.held out.new) (N.held notes.old) (N.held notes.new) }
+        (S.contents out.old) (S.contents out.new) (N.contents notes.old) (N.contents notes.new) }
     ensures only { (result ≡ 0) ⊎ ((result ≡ 3) ⊎ ((result ≡ 4) ⊎ ((result ≡ 7) ⊎ (result ≡ 8)))) }
     ensures complete { (at : Contents) → F.files files.old ≡ Some at → (FaultCounted (F.faults files.old) (F.faults files.new) → ⊥) →
         (FaultCounted (S.faults out.old) (S.faults out.new) → ⊥) → (FaultCounted (N.faults notes.old) (N.faults notes.new) → ⊥) →
@@ -61,16 +61,16 @@ pub fn fizz<R: Threads + Wait + Sync, F: Files, S: Sink, N: Sink, G: Gate + Sync
     _gate: &G,
 ) -> u8
     ensures same { F.files files.new ≡ F.files files.old }
-    ensures usage { result ≡ 2 → (command_of words.now ≡ None) × Appends (N.held notes.old) (N.held notes.new) usage_note
-        × Keeps (S.held out.old) (S.held out.new) }
+    ensures usage { result ≡ 2 → (command_of words.now ≡ None) × Appends (N.contents notes.old) (N.contents notes.new) usage_note
+        × Keeps (S.contents out.old) (S.contents out.new) }
     ensures settled { result ≡ 0 → (command : Command) × (command_of words.now ≡ Some command)
-        × WritesOutput (F.files files.old) command (S.held out.old) (S.held out.new) × Keeps (N.held notes.old) (N.held notes.new) }
+        × WritesOutput (F.files files.old) command (S.contents out.old) (S.contents out.new) × Keeps (N.contents notes.old) (N.contents notes.new) }
     ensures told { (result ≡ 3) ⊎ (result ≡ 4) → (command : Command) × (command_of words.now ≡ Some command)
         × ((refusal : Refusal) × (status_of refusal ≡ result) × Tells (F.files files.old) command (FaultCounted (F.faults files.old) (F.faults files.new))
-        (S.held out.old) (S.held out.new) (N.held notes.old) (N.held notes.new) refusal) }
+        (S.contents out.old) (S.contents out.new) (N.contents notes.old) (N.contents notes.new) refusal) }
     ensures failed { result ≡ 7 → FaultCounted (S.faults out.old) (S.faults out.new) ⊎ FaultCounted (N.faults notes.old) (N.faults notes.new) }
     ensures cut { (result ≡ 7) ⊎ (result ≡ 8) → IsCutCall words.now (F.files files.old) (FaultCounted (F.faults files.old) (F.faults files.new))
-        (S.held out.old) (S.held out.new) (N.held notes.old) (N.held notes.new) }
+        (S.contents out.old) (S.contents out.new) (N.contents notes.old) (N.contents notes.new) }
     ensures only { (result ≡ 2) ⊎ ((result ≡ 0) ⊎ ((result ≡ 3) ⊎ ((result ≡ 4) ⊎ ((result ≡ 7) ⊎ (result ≡ 8))))) }
     ensures unmeant { command_of words.now ≡ None → (FaultCounted (N.faults notes.old) (N.faults notes.new) → ⊥) → result ≢ 8 → result ≡ 2 }
     ensures complete { (command : Command) → command_of words.now ≡ Some command → (at : Contents) → F.files files.old ≡ Some at →
