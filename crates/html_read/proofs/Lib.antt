@@ -16,3 +16,4 @@ pub mod WalksLemmas
 pub mod FinishCauseLemmas
 pub mod TokenizesLemmas
 pub mod SplitsLemmas
+pub mod RestsLemmas

@@ -26,18 +26,18 @@ split_by : (bytes : List ℕ) (toks : List Token) (mode : Mode) (seen : List ℕ
     → HasSplit (bytes ++ b ∷ bs)
 split_by bytes toks mode seen b bs (Goes next) s t later h =
     subst HasSplit (append_assoc bytes (b ∷ []) bs)
-        (later next (seen ++ b ∷ []) h (bytes ++ b ∷ []) toks (goes bytes toks mode next seen b s t))
+    (later next (seen ++ b ∷ []) h (bytes ++ b ∷ []) toks (goes bytes toks mode next seen b s t))
 split_by bytes toks mode seen b bs Ends s t later h =
     let k : IsSpelling false (seen ++ b ∷ []) _ = ending mode seen b _ s.mode_is t in
     subst HasSplit (append_assoc bytes (b ∷ []) bs)
-        (later (Text Whole) [] h (bytes ++ b ∷ []) (toks ++ k.tok ∷ [])
-            (ends bytes toks mode seen b k.tok s k.is_token k.spelled k.text_is k.place_is))
+    (later (Text Whole) [] h (bytes ++ b ∷ []) (toks ++ k.tok ∷ [])
+    (ends bytes toks mode seen b k.tok s k.is_token k.spelled k.text_is k.place_is))
 split_by bytes toks mode seen b bs Cuts s t later h =
     let c : (b ≡ 60) × IsSpelling true seen _ = cutting mode seen b _ s.mode_is t in
     let k : IsSpelling true seen _ = c.1 in
     subst HasSplit (append_assoc bytes (b ∷ []) bs)
-        (later Name (b ∷ []) (ap (λ x. lives Name (x ∷ []) bs) c.0 ∙ h) (bytes ++ b ∷ []) (toks ++ k.tok ∷ [])
-            (cuts bytes toks mode seen b k.tok s c.0 k.is_token k.spelled k.text_is k.place_is))
+    (later Name (b ∷ []) (ap (λ x. lives Name (x ∷ []) bs) c.0 ∙ h) (bytes ++ b ∷ []) (toks ++ k.tok ∷ [])
+    (cuts bytes toks mode seen b k.tok s c.0 k.is_token k.spelled k.text_is k.place_is))
 split_by bytes toks mode seen b bs (Fails kind) s t later h = absurd (none_true h)
 
 split_on : (bs : List ℕ) (mode : Mode) (seen : List ℕ) → lives mode seen bs ≡ true → StandsThen bs mode seen
@@ -65,6 +65,6 @@ prefix_splits prefix more toks rest s =
     let h : HasSplit prefix = alive_splits prefix (alive_prefix prefix more (splits_alive (prefix ++ more) toks rest s)) in
     let f : (further : List Token) × (toks ≡ h.toks ++ further) =
     front_list (prefix ++ more) h.toks toks (h.rest ++ more) rest h.split.tokens
-        (ap (λ x. x ++ more) h.split.whole ∙ append_assoc (spellings h.toks) h.rest more)
-        (λ e. tag_stays h.rest more (h.split.ended e)) s in
+    (ap (λ x. x ++ more) h.split.whole ∙ append_assoc (spellings h.toks) h.rest more)
+    (λ e. tag_stays h.rest more (h.split.ended e)) s in
     record { first = h.toks; rest = h.rest; further = f.0; split = h.split; all = f.1 }
