@@ -27,3 +27,4 @@ pub mod Fronts
 pub mod Nodes
 pub mod Placed
 pub mod Plain
+pub mod RunsLemmas

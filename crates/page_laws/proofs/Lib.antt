@@ -15,3 +15,4 @@ pub mod ViewsLemmas
 pub mod PageViewsLemmas
 pub mod RevealsLemmas
 pub mod PageRevealsLemmas
+pub mod PrintedDocumentsLemmas

@@ -7,3 +7,4 @@ pub mod DocumentEdits
 pub mod Examples
 pub mod PageViews
 pub mod NodeReveals
+pub mod PrintedDocuments
