@@ -12,7 +12,7 @@ use Rattle.html_names.proofs.NamesLemmas.{reserved_after}
 use Rattle.dom_forest.specs.Ids.{gives_id, is_value}
 use Rattle.fizz_instructions.specs.Bodies.{id_of, boundary_id, segment_id, placeholder_id}
 use Rattle.fizz_instructions.proofs.IdsLemmas.{same_id}
-use Rattle.fizz_instructions.proofs.ListLemmas.{same_after}
+use Rattle.std.proofs.lemmas.List.{append_cancel_left}
 use Rattle.page_laws.specs.Pages.{is_reserved_id}
 
 pub never_true : (b : Bool) → (b ≡ true → ⊥) → b ≡ false
@@ -38,27 +38,27 @@ first_of bytes = get_or bytes 0 0
 -- ids of two kinds
 pub boundary_no_segment : (prefix : List ℕ) (i h : ℕ) → bytes_eq (boundary_id prefix i) (segment_id prefix h) ≡ false
 boundary_no_segment prefix i h = bytes_apart (boundary_id prefix i) (segment_id prefix h)
-    (λ e. let apart : get_or (codes "B:" ++ hexadecimal i) 0 0 ≡ get_or (codes "S:" ++ hexadecimal h) 0 0 = ap (λ bytes. get_or bytes 0 0) (same_after prefix _ _ e) in omega (arith, apart))
+    (λ e. let apart : get_or (codes "B:" ++ hexadecimal i) 0 0 ≡ get_or (codes "S:" ++ hexadecimal h) 0 0 = ap (λ bytes. get_or bytes 0 0) (append_cancel_left prefix _ _ e) in omega (arith, apart))
 
 pub placeholder_no_segment : (prefix : List ℕ) (i h : ℕ) → bytes_eq (placeholder_id prefix i) (segment_id prefix h) ≡ false
 placeholder_no_segment prefix i h = bytes_apart (placeholder_id prefix i) (segment_id prefix h)
-    (λ e. let apart : get_or (codes "P:" ++ hexadecimal i) 0 0 ≡ get_or (codes "S:" ++ hexadecimal h) 0 0 = ap (λ bytes. get_or bytes 0 0) (same_after prefix _ _ e) in omega (arith, apart))
+    (λ e. let apart : get_or (codes "P:" ++ hexadecimal i) 0 0 ≡ get_or (codes "S:" ++ hexadecimal h) 0 0 = ap (λ bytes. get_or bytes 0 0) (append_cancel_left prefix _ _ e) in omega (arith, apart))
 
 pub boundary_no_placeholder : (prefix : List ℕ) (i h : ℕ) → bytes_eq (boundary_id prefix i) (placeholder_id prefix h) ≡ false
 boundary_no_placeholder prefix i h = bytes_apart (boundary_id prefix i) (placeholder_id prefix h)
-    (λ e. let apart : get_or (codes "B:" ++ hexadecimal i) 0 0 ≡ get_or (codes "P:" ++ hexadecimal h) 0 0 = ap (λ bytes. get_or bytes 0 0) (same_after prefix _ _ e) in omega (arith, apart))
+    (λ e. let apart : get_or (codes "B:" ++ hexadecimal i) 0 0 ≡ get_or (codes "P:" ++ hexadecimal h) 0 0 = ap (λ bytes. get_or bytes 0 0) (append_cancel_left prefix _ _ e) in omega (arith, apart))
 
 pub placeholder_no_boundary : (prefix : List ℕ) (i h : ℕ) → bytes_eq (placeholder_id prefix i) (boundary_id prefix h) ≡ false
 placeholder_no_boundary prefix i h = bytes_apart (placeholder_id prefix i) (boundary_id prefix h)
-    (λ e. let apart : get_or (codes "P:" ++ hexadecimal i) 0 0 ≡ get_or (codes "B:" ++ hexadecimal h) 0 0 = ap (λ bytes. get_or bytes 0 0) (same_after prefix _ _ e) in omega (arith, apart))
+    (λ e. let apart : get_or (codes "P:" ++ hexadecimal i) 0 0 ≡ get_or (codes "B:" ++ hexadecimal h) 0 0 = ap (λ bytes. get_or bytes 0 0) (append_cancel_left prefix _ _ e) in omega (arith, apart))
 
 pub segment_no_boundary : (prefix : List ℕ) (i h : ℕ) → bytes_eq (segment_id prefix i) (boundary_id prefix h) ≡ false
 segment_no_boundary prefix i h = bytes_apart (segment_id prefix i) (boundary_id prefix h)
-    (λ e. let apart : get_or (codes "S:" ++ hexadecimal i) 0 0 ≡ get_or (codes "B:" ++ hexadecimal h) 0 0 = ap (λ bytes. get_or bytes 0 0) (same_after prefix _ _ e) in omega (arith, apart))
+    (λ e. let apart : get_or (codes "S:" ++ hexadecimal i) 0 0 ≡ get_or (codes "B:" ++ hexadecimal h) 0 0 = ap (λ bytes. get_or bytes 0 0) (append_cancel_left prefix _ _ e) in omega (arith, apart))
 
 pub segment_no_placeholder : (prefix : List ℕ) (i h : ℕ) → bytes_eq (segment_id prefix i) (placeholder_id prefix h) ≡ false
 segment_no_placeholder prefix i h = bytes_apart (segment_id prefix i) (placeholder_id prefix h)
-    (λ e. let apart : get_or (codes "S:" ++ hexadecimal i) 0 0 ≡ get_or (codes "P:" ++ hexadecimal h) 0 0 = ap (λ bytes. get_or bytes 0 0) (same_after prefix _ _ e) in omega (arith, apart))
+    (λ e. let apart : get_or (codes "S:" ++ hexadecimal i) 0 0 ≡ get_or (codes "P:" ++ hexadecimal h) 0 0 = ap (λ bytes. get_or bytes 0 0) (append_cancel_left prefix _ _ e) in omega (arith, apart))
 
 -- The ids of segments and boundaries are reserved.
 pub boundary_reserved : (prefix : List ℕ) (i : ℕ) → is_reserved prefix (boundary_id prefix i) ≡ true

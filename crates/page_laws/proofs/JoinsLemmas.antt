@@ -1,7 +1,7 @@
 -- Joins of forests: what is appended twice, and the bytes of what is joined.
 use Rattle.std.proofs.Common.{◌≡◌, ℕ, ◌+◌, ◌==◌, eqb, Bool, true, false, if◌then◌else◌, List, ◌++◌, Option, Some, None, refl, sym, ap, ◌∙◌, arith, append_assoc, codes}
 use Rattle.html_names.specs.Escape.{escape_of}
-use Rattle.html_read.specs.Tokens.{said}
+use Rattle.html_names.specs.Comments.{comment_spelling}
 use Rattle.dom_forest.specs.Forest.{Forest, empty, tree, count, joined}
 use Rattle.dom_forest.specs.Edits.{DomState, changed, renumbered, with_last}
 use Rattle.dom_forest.specs.declared.node.NodeId.{NodeId}
@@ -24,7 +24,7 @@ page_bytes-joined (tree i (Element name attributes) k l) b =
     grouped (element_bytes name attributes (page_bytes k)) (page_bytes l) (page_bytes b) (page_bytes (joined l b)) (page_bytes-joined l b)
 page_bytes-joined (tree i (Text t) k l) b = grouped (escape_of t) (page_bytes l) (page_bytes b) (page_bytes (joined l b)) (page_bytes-joined l b)
 page_bytes-joined (tree i (Comment m) k l) b =
-    grouped (codes "<!--" ++ (said (said_of m) ++ codes "-->")) (page_bytes l) (page_bytes b) (page_bytes (joined l b)) (page_bytes-joined l b)
+    grouped (comment_spelling (said_of m)) (page_bytes l) (page_bytes b) (page_bytes (joined l b)) (page_bytes-joined l b)
 
 count-joined : (a b : Forest) → count (joined a b) ≡ count a + count b
 count-joined empty b = omega arith

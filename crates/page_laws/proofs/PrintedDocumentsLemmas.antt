@@ -127,5 +127,5 @@ printed_document laws prefix nodes h =
       run = subst (λ bytes. RunsWhole prefix at_first bytes (with_forest forest at_first)) (page_bytes-printed nodes) whole;
       settled = ap settled_of (laws.ids prefix 0 forest) ∙ laws.settled prefix forest h.own ∙ ap (λ x. Some x) (plain_nodes-printed nodes);
     } where
-  room : MayPrint (printed_forest nodes) false most_open → MayPrint (printed_forest nodes) false (most_open - 0)
-  room m = subst (MayPrint (printed_forest nodes) false) (omega arith) m
+      room : MayPrint (printed_forest nodes) false most_open → MayPrint (printed_forest nodes) false (most_open - 0)
+      room m = subst (MayPrint (printed_forest nodes) false) (omega arith) m

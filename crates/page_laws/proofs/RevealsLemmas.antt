@@ -14,7 +14,7 @@ use Rattle.dom_forest.specs.declared.node.Mark.TheVariants.{Complete, Pending, C
 use Rattle.dom_forest.specs.declared.node.NewNode.{NewNode}
 use Rattle.dom_forest.specs.declared.node.NewNode.TheVariants.{Element, Text, Comment}
 use Rattle.fizz_instructions.specs.Bodies.{boundary_id}
-use Rattle.fizz_instructions.proofs.ListLemmas.{same_after}
+use Rattle.std.proofs.lemmas.List.{append_cancel_left}
 use Rattle.document_machine.specs.Reveals.{RevealsWhole, has_placeholder_before, is_placeholder, is_placeholder_id}
 use Rattle.page_laws.specs.Balance.{IsBalanced, closes_all}
 use Rattle.page_laws.specs.Documents.{Container, StreamedDocument, AreClean, container_element, container_nodes, document_nodes}
@@ -149,7 +149,7 @@ boundary_is_none prefix i = never_true (begins_with (prefix ++ codes "P:") (boun
     let front : take (length (prefix ++ mark)) (boundary_id prefix i) ≡ prefix ++ mark = (bytes_eq-Decides (take (length (prefix ++ mark)) (boundary_id prefix i)) (prefix ++ mark)).0 e in
     let whole : prefix ++ (codes "B:" ++ hexadecimal i) ≡ prefix ++ (mark ++ rest) =
     sym (take-append-drop (length (prefix ++ mark)) (boundary_id prefix i)) ∙ ap (λ x. x ++ rest) front ∙ append_assoc prefix mark rest in
-    let apart : get_or (codes "B:" ++ hexadecimal i) 0 0 ≡ get_or (mark ++ rest) 0 0 = ap (λ bytes. get_or bytes 0 0) (same_after prefix _ _ whole) in
+    let apart : get_or (codes "B:" ++ hexadecimal i) 0 0 ≡ get_or (mark ++ rest) 0 0 = ap (λ bytes. get_or bytes 0 0) (append_cancel_left prefix _ _ whole) in
     omega (arith, apart))
 
 boundary_template_is_none : (prefix : List ℕ) (i : ℕ) → is_placeholder prefix (boundary_template prefix i) ≡ false
