@@ -23,5 +23,5 @@ pub use laws::{laws_of_documents, laws_of_printing};
 pub use machine::Machine;
 pub use run_laws::laws_of_runs;
 pub use status::BoundaryStatus;
-pub use view::{Counts, Item, SettledRefused, View};
+pub use view::{Counts, SettledRefused, View, ViewPart};
 pub use view_laws::laws_of_views;

@@ -16,3 +16,4 @@ pub mod PageViewsLemmas
 pub mod RevealsLemmas
 pub mod PageRevealsLemmas
 pub mod PrintedDocumentsLemmas
+pub mod PlacesLemmas

@@ -8,3 +8,4 @@ pub mod Examples
 pub mod PageViews
 pub mod NodeReveals
 pub mod PrintedDocuments
+pub mod PagePlaces
