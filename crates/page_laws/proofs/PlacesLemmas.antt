@@ -205,13 +205,13 @@ tokens_after laws a c first toks ha hac tag =
     append_cancel_left (spellings first) c (spellings further)
     (ap (λ x. x ++ c) (sym ha.spelled) ∙ hac.spelled ∙ ap spellings found.1 ∙ flat_map-append spelling first further) in
     (further, found.1, record { spelled = bytes ∙ sym (placed_spellings 0 further); tokens = placed_are 0 false further may }) where
-  tag_more : (c : List ℕ) → begins_tag c ≡ true → begins_tag (c ++ 60 ∷ []) ≡ true
-  tag_more [] e = absurd (nothing_true e)
-  tag_more (x ∷ xs) e = e
+      tag_more : (c : List ℕ) → begins_tag c ≡ true → begins_tag (c ++ 60 ∷ []) ≡ true
+      tag_more [] e = absurd (nothing_true e)
+      tag_more (x ∷ xs) e = e
 
-  may_part : (after : Bool) (xs ys : List Token) → MayBeTokens after (xs ++ ys) → MayBeTokens (ends_in_text after xs) ys
-  may_part after [] ys h = h
-  may_part after (x ∷ xs) ys h = may_part (is_text x) xs ys h.2
+      may_part : (after : Bool) (xs ys : List Token) → MayBeTokens after (xs ++ ys) → MayBeTokens (ends_in_text after xs) ys
+      may_part after [] ys h = h
+      may_part after (x ∷ xs) ys h = may_part (is_text x) xs ys h.2
 
 nothing_closed : (b : List ℕ) → IsClosedAt b 0
 nothing_closed b = record { within = omega arith; toks = []; are = record { spelled = refl; tokens = tt }; closed = refl }
@@ -258,6 +258,6 @@ closed_joined laws a b k ca tag c =
       };
       closed = placed-first 0 [] 0 toks ∙ still_open-append 0 ca.toks c.toks ∙ ap (λ n. still_open n c.toks) ca.closed ∙ c.closed;
     } where
-  later : (k : ℕ) (before : Bool) (c : IsClosedAt b k) → MayBeTokens before c.toks
-  later zero before c = subst (MayBeTokens before) (sym (no_tokens laws c.toks c.are)) tt
-  later (suc k) before c = may_follow_tag before c.toks (may_be_tokens 0 false c.toks c.are.tokens) (ap begins_tag (sym c.are.spelled) ∙ tag_taken k b tag)
+      later : (k : ℕ) (before : Bool) (c : IsClosedAt b k) → MayBeTokens before c.toks
+      later zero before c = subst (MayBeTokens before) (sym (no_tokens laws c.toks c.are)) tt
+      later (suc k) before c = may_follow_tag before c.toks (may_be_tokens 0 false c.toks c.are.tokens) (ap begins_tag (sym c.are.spelled) ∙ tag_taken k b tag)
