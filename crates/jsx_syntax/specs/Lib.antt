@@ -1,0 +1,10 @@
+pub mod Trees
+pub mod Words
+pub mod Grammar
+pub mod WordTests
+pub mod Steps
+pub mod Refusals
+pub mod Examples
+pub mod Parsing
+pub mod Advances
+pub mod Rules
