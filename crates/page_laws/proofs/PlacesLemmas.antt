@@ -8,7 +8,7 @@ use Rattle.html_read.specs.Faults.{HasSplit, IsBegun, Splits, SplitsBefore, begi
 use Rattle.html_read.specs.Tokens.{AreTokens, IsToken, MayFollow, Tokenizes, is_text, spelling, spellings}
 use Rattle.html_read.specs.declared.token.Token.{Token}
 use Rattle.html_read.specs.declared.token.Token.TheVariants as tok
-use Rattle.document_machine.specs.Places.{IsClosedAt, IsShellEnd, first_late, open_after, still_open}
+use Rattle.document_machine.specs.Places.{IsClosedAt, IsRestPlace, IsShellEnd, first_late, open_after, still_open}
 use Rattle.document_machine.specs.Views.{is_container}
 use Rattle.document_machine.proofs.JoinedRuns.{ends_append, text_no_tag}
 use Rattle.document_machine.proofs.MovedTokens.{IsMoved, MayBeTokens, is_moved, may_be_first, may_be_tokens, moved, placed, placed_are, placed_ends, placed_spellings}
@@ -261,3 +261,16 @@ closed_joined laws a b k ca tag c =
       later : (k : ℕ) (before : Bool) (c : IsClosedAt b k) → MayBeTokens before c.toks
       later zero before c = subst (MayBeTokens before) (sym (no_tokens laws c.toks c.are)) tt
       later (suc k) before c = may_follow_tag before c.toks (may_be_tokens 0 false c.toks c.are.tokens) (ap begins_tag (sym c.are.spelled) ∙ tag_taken k b tag)
+
+shell_of_late : (prefix bytes : List ℕ) (at : ℕ) → HasLateAt prefix bytes at → IsShellEnd prefix bytes at
+shell_of_late prefix bytes at late = record { toks = late.toks; rest = late.rest; split = late.split; is = sym (ap (λ o. unwrap_or o (length bytes)) late.is) }
+
+-- A rest place stays one where more follows, once late content has begun.
+pub rest_place_stays : TokenLaws → (prefix a b : List ℕ) (shell m : ℕ) → HasLateAt prefix a shell → HasSplit (a ++ b) → IsRestPlace prefix a m → IsRestPlace prefix (a ++ b) m
+rest_place_stays laws prefix a b shell m late whole x =
+    let same : x.shell ≡ shell = one_shell_end laws prefix a x.shell shell x.is_end (shell_of_late prefix a shell late) in
+    record {
+      shell = x.shell;
+      is_end = subst (IsShellEnd prefix (a ++ b)) (sym same) (shell_end_stays laws prefix a b shell late whole);
+      place = elim x.place [ inl at ↦ inl at | inr later ↦ inr (later.0, closed_further a b m later.1) ];
+    }

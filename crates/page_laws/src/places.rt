@@ -4,7 +4,7 @@ ghost use Rattle.std.specs.Prelude.{◌≡◌, ◌≤◌, ◌+◌, ◌++◌, ℕ
 ghost use Rattle.html_read.specs.Faults.{HasSplit, begins_tag};
 ghost use Rattle.html_read.specs.Tokens.{IsToken, Tokenizes, spelling};
 ghost use Rattle.html_read.specs.declared.token.Token.{Token};
-ghost use Rattle.document_machine.specs.Places.{IsClosedAt, IsShellEnd, first_late, still_open};
+ghost use Rattle.document_machine.specs.Places.{IsClosedAt, IsRestPlace, IsShellEnd, first_late, still_open};
 ghost use Rattle.page_laws.specs.PagePlaces.{HasLateAt, IsClosed, is_late};
 
 use html_read::laws_of_tokens;
@@ -23,7 +23,8 @@ pub fn laws_of_shells()
 }
 
 /// The places of bytes at which their tokens are whole and close what they open, of bytes after others: within the first
-/// they are theirs, and past the first, which close what they open, those of the others.
+/// they are theirs, and past the first, which close what they open, those of the others. A rest place of a page in which late
+/// content has begun stays one whatever follows.
 pub fn laws_of_rest_places()
     ensures within { (a b : List ℕ) (m : ℕ) → m ≤ length a → IsClosedAt (a ++ b) m → IsClosedAt a m }
     ensures first { (a b : List ℕ) (m : ℕ) → IsClosedAt a m → IsClosedAt (a ++ b) m }
@@ -31,6 +32,8 @@ pub fn laws_of_rest_places()
         IsClosedAt (a ++ b) (length a + k) → IsClosedAt b k }
     ensures further { (a b : List ℕ) (k : ℕ) → IsClosed a → begins_tag b ≡ true → IsClosedAt b k →
         IsClosedAt (a ++ b) (length a + k) }
+    ensures stays { (prefix a b : List ℕ) (shell m : ℕ) → HasLateAt prefix a shell → HasSplit (a ++ b) →
+        IsRestPlace prefix a m → IsRestPlace prefix (a ++ b) m }
 {
     laws_of_tokens();
 }

@@ -17,7 +17,7 @@ const MOST: usize = 16_777_216;
 const NESTED: usize = 508;
 
 /// How many containers there are.
-const CONTAINERS: u32 = 120;
+const CONTAINERS: u32 = 60;
 
 const FILLS: &str =
     "$RS=function(s,p){s=document.getElementById(s);p=document.getElementById(p);for(s.parentNode.removeChild(s);s.firstChild;)p.parentNode.insertBefore(s.firstChild,p);p.parentNode.removeChild(p)};";
@@ -111,7 +111,7 @@ fn moved_containers_nest_without_end(rt: HostRuntime) -> Result<(), Fail> {
     let page = moved_containers(alloc)?;
     let view = run(alloc, &page).map_err(|_| Fail::from("a fault"))?;
     let doc = view.settled(alloc).map_err(|_| Fail::from("pending"))?;
-    // 120 * 508 elements, each `<b></b>`
-    assert_eq!(rt; print_doc(alloc, &doc)?.len(), 426_720);
+    // 60 * 508 elements, each `<b></b>`
+    assert_eq!(rt; print_doc(alloc, &doc)?.len(), 213_360);
     Ok(())
 }
