@@ -1,24 +1,23 @@
 -- `$RC` and `$RX` over a forest around a pending boundary.
-use Rattle.std.proofs.Common.{◌≡◌, ◌≢◌, ℕ, zero, suc, ◌+◌, ◌<◌, ◌≤◌, ◌==◌, eqb, nat_lt, Bool, true, false, if◌then◌else◌, inl, inr, Option, Some, None, Ok, Err, List, [], ◌∷◌, ◌++◌, refl, sym, ap, ◌∙◌, subst, arith, codes}
-use Rattle.std.proofs.lemmas.Bool.{cond-true, cond-false, eqb-true, eq-eqb, cases_eq, cases_lt}
-use Rattle.dom_forest.specs.Forest.{Forest, empty, tree, times, joined, or_else, or_id, from, first_tree, first_kids, first_later, first_content, content_of, later_of, previous_after, previous_of}
-use Rattle.dom_forest.specs.Edits.{DomState, IsNumbered, changed, renumbered, without, with_before, with_content, with_digest_at, with_digest, digest_set, part_of, inner_of}
+use Rattle.std.proofs.Common.{◌≡◌, ℕ, ◌+◌, ◌≤◌, ◌==◌, eqb, true, false, if◌then◌else◌, Option, Some, None, List, [], ◌∷◌, refl, sym, ap, ◌∙◌, subst, arith}
+use Rattle.std.proofs.lemmas.Bool.{cond-true, cond-false, eq-eqb}
+use Rattle.dom_forest.specs.Forest.{Forest, empty, tree, times, joined, from, first_later, first_content, content_of, previous_after}
+use Rattle.dom_forest.specs.Edits.{DomState, IsNumbered, changed, without, with_content, digest_set}
 use Rattle.dom_forest.specs.Boundary.{closing_mark, end_of_boundary}
 use Rattle.dom_forest.specs.Ids.{has_id, element_with}
-use Rattle.dom_forest.specs.declared.node.Mark.TheVariants.{Complete, Pending, Client, End, Space}
+use Rattle.dom_forest.specs.declared.node.Mark.TheVariants.{Complete, Pending, Client, End}
 use Rattle.dom_forest.specs.declared.node.NewNode.{NewNode}
-use Rattle.dom_forest.specs.declared.node.NewNode.TheVariants.{Element, Text, Comment}
+use Rattle.dom_forest.specs.declared.node.NewNode.TheVariants.{Comment}
 use Rattle.fizz_instructions.specs.Bodies.{boundary_id, segment_id}
-use Rattle.document_machine.specs.Edits.{Edited, closed_with, complete_boundary, complete_from, client_render, client_render_from, client_render_at, with_digest_unless_empty, reveal, reveal_at, revealed, marker_of, waiting, waits, from_sibling, without_range, with_children_before, unless_open}
-use Rattle.document_machine.proofs.Spots.{absent}
+use Rattle.document_machine.specs.Edits.{complete_boundary, complete_from, client_render, client_render_from, client_render_at, with_digest_unless_empty, reveal, reveal_at, revealed, marker_of, waiting, waits, from_sibling, unless_open}
 use Rattle.page_laws.specs.Nodes.{Nodes, none, node, nodes_of, joined_nodes, id_count}
-use Rattle.page_laws.specs.Pages.{nodes_to_end, boundary_template, client_template}
+use Rattle.page_laws.specs.Pages.{nodes_to_end, client_template}
 use Rattle.page_laws.specs.Balance.{IsBalanced}
 use Rattle.page_laws.specs.DocumentEdits.{LeavesNodes}
-use Rattle.page_laws.proofs.NodesLemmas.{nodes_of-joined, nodes_of-renumbered}
+use Rattle.page_laws.proofs.NodesLemmas.{nodes_of-joined}
 use Rattle.page_laws.proofs.Contexts.{Context, plug, plug_nodes, around, around_id, nodes_of-plug, times-plug, id_count-plug, changed-plug, from-plug, previous-plug, element_with-plug}
 use Rattle.page_laws.proofs.PagesLemmas.{one, closing_mark-past}
-use Rattle.page_laws.proofs.MachineEdits.{one_self, one_zero, times-joined, first_once, from_first, changed_first, found_first, fewer}
+use Rattle.page_laws.proofs.MachineEdits.{one_self, one_zero, times-joined, from_first, changed_first, found_first, fewer}
 use Rattle.page_laws.proofs.Filling.{put_nodes, put_nodes-of}
 
 -- A template with a digest that is not empty.

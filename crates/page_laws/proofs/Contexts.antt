@@ -1,12 +1,12 @@
 -- A forest around a part of it: what is found, counted or changed in the part alone is so in the whole.
-use Rattle.std.proofs.Common.{◌≡◌, ℕ, ◌+◌, ◌==◌, eqb, Bool, true, false, if◌then◌else◌, Option, Some, None, List, refl, sym, ap, ◌∙◌, subst, arith}
+use Rattle.std.proofs.Common.{◌≡◌, ℕ, ◌+◌, ◌==◌, eqb, Bool, true, false, if◌then◌else◌, Option, Some, None, List, refl, ap, ◌∙◌, arith}
 use Rattle.std.proofs.lemmas.Bool.{cond-false}
 use Rattle.dom_forest.specs.Forest.{Forest, empty, tree, times, or_else, or_id, from, previous_after}
 use Rattle.dom_forest.specs.Edits.{changed}
 use Rattle.dom_forest.specs.Ids.{has_id, element_with}
 use Rattle.dom_forest.specs.declared.node.NewNode.{NewNode}
 use Rattle.document_machine.proofs.Spots.{absent}
-use Rattle.page_laws.specs.Nodes.{Nodes, none, node, nodes_of, id_count}
+use Rattle.page_laws.specs.Nodes.{Nodes, node, nodes_of, id_count}
 use Rattle.page_laws.proofs.NodesLemmas.{element_with-none, or_id-none}
 
 -- A forest with a gap: here, among the children of a node, or among the later siblings of one.

@@ -1,18 +1,14 @@
 -- Documents of a page and containers: their ids, and what an edit turns in them.
-use Rattle.std.proofs.Common.{◌≡◌, ℕ, zero, suc, ◌+◌, ◌==◌, eqb, Bool, true, false, ◌||◌, if◌then◌else◌, inl, inr, List, [], ◌∷◌, ◌++◌, refl, sym, ap, ◌∙◌, subst, arith, codes}
+use Rattle.std.proofs.Common.{◌≡◌, ℕ, ◌+◌, List, [], ◌∷◌, ◌++◌, refl, sym, ap, ◌∙◌, subst, arith, codes}
 use Rattle.std.specs.Str.{bytes_eq}
-use Rattle.std.proofs.lemmas.Bool.{cond-true, cond-false, eqb-true, eq-eqb}
-use Rattle.html_names.specs.Attributes.{is_reserved}
 use Rattle.dom_forest.specs.Ids.{has_id}
-use Rattle.dom_forest.specs.declared.node.NewNode.{NewNode}
 use Rattle.fizz_instructions.specs.Bodies.{boundary_id, placeholder_id, segment_id}
-use Rattle.page_laws.specs.Nodes.{Nodes, none, node, joined_nodes, id_count}
+use Rattle.page_laws.specs.Nodes.{Nodes, node, joined_nodes, id_count}
 use Rattle.page_laws.specs.Pages.{Page, page_nodes, placeholder_count, pending_count, client_count, IsCleanPage}
-use Rattle.page_laws.specs.Documents.{Container, StreamedDocument, container_element, container_nodes, document_nodes, edited_containers, edited_pages, sum_of_contents, sum_of_pages, container_count, AreClean, IsCleanDocument}
+use Rattle.page_laws.specs.Documents.{Container, StreamedDocument, container_element, container_nodes, document_nodes, edited_containers, edited_pages, sum_of_contents, sum_of_pages, container_count, AreClean}
 use Rattle.page_laws.proofs.IdsLemmas.{same_kind, segment_no_boundary, segment_no_placeholder}
-use Rattle.page_laws.proofs.NodesLemmas.{joined_nodes-assoc, id_count-joined}
 use Rattle.page_laws.proofs.PagesLemmas.{one, or_false, placeholder_ids, boundary_ids, segment_ids}
-use Rattle.page_laws.proofs.Turned.{Turned, IsOpen, OneTurned, here, under, after, one_turned, turned_tree, turned_joins, turned-past}
+use Rattle.page_laws.proofs.Turned.{Turned, IsOpen, here, one_turned, turned_tree, turned_joins, turned-past}
 
 -- a container of a segment is gone
 pub record Leaves (prefix : List ℕ) (h : ℕ) (content from to : Nodes) : Type 0 where

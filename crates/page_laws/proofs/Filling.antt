@@ -1,13 +1,13 @@
 -- `$RS` over a forest around a container and around a placeholder.
-use Rattle.std.proofs.Common.{◌≡◌, ◌≢◌, ℕ, zero, suc, ◌+◌, ◌<◌, ◌≤◌, ◌==◌, eqb, nat_lt, Bool, true, false, if◌then◌else◌, inl, inr, Option, Some, None, Ok, Err, List, [], ◌∷◌, ◌++◌, refl, sym, ap, ◌∙◌, subst, arith, codes}
-use Rattle.std.proofs.lemmas.Bool.{cond-true, cond-false, eqb-true, eq-eqb, cases_eq, cases_lt}
+use Rattle.std.proofs.Common.{◌≡◌, ℕ, ◌+◌, ◌<◌, ◌≤◌, ◌==◌, nat_lt, true, false, if◌then◌else◌, inl, inr, Some, Ok, List, [], sym, ap, ◌∙◌, subst, arith}
+use Rattle.std.proofs.lemmas.Bool.{cond-false, cases_lt}
 use Rattle.dom_forest.specs.Forest.{Forest, empty, tree, times, joined, or_id, from, first_tree, first_kids}
-use Rattle.dom_forest.specs.Edits.{DomState, IsNumbered, changed, renumbered, without, with_before, part_of, inner_of}
+use Rattle.dom_forest.specs.Edits.{DomState, IsNumbered, changed, renumbered, without}
 use Rattle.dom_forest.specs.Ids.{has_id, element_with}
 use Rattle.dom_forest.specs.declared.node.NewNode.{NewNode}
 use Rattle.fizz_instructions.specs.Bodies.{placeholder_id, segment_id}
-use Rattle.document_machine.specs.Edits.{Edited, closed_with, fill_placeholder, fill_with, fill_from, fill_at, with_children_before, unless_open}
-use Rattle.page_laws.specs.Nodes.{Nodes, none, node, nodes_of, joined_nodes, id_count}
+use Rattle.document_machine.specs.Edits.{Edited, fill_placeholder, fill_with, fill_from, with_children_before, unless_open}
+use Rattle.page_laws.specs.Nodes.{Nodes, nodes_of, joined_nodes, id_count}
 use Rattle.page_laws.specs.DocumentEdits.{LeavesNodes}
 use Rattle.page_laws.proofs.NodesLemmas.{nodes_of-joined, nodes_of-renumbered, element_with-none}
 use Rattle.page_laws.proofs.Contexts.{Context, plug, plug_nodes, around, nodes_of-plug, times-plug, changed-plug, element_with-same}

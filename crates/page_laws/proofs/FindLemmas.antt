@@ -1,17 +1,16 @@
 -- What is found by an id in a numbered forest, and how an edit of one node changes the counts of ids.
-use Rattle.std.proofs.Common.{◌≡◌, ◌≢◌, ℕ, zero, suc, ◌+◌, ◌<◌, ◌≤◌, ◌==◌, eqb, Bool, true, false, if◌then◌else◌, inl, inr, Option, Some, None, List, refl, sym, ap, ◌∙◌, subst, arith}
-use Rattle.std.proofs.lemmas.Bool.{cond-true, cond-false, eqb-true, eq-eqb, cases_eq}
-use Rattle.dom_forest.specs.Forest.{Forest, empty, tree, times, or_id, from, first_content, content_of}
+use Rattle.std.proofs.Common.{◌≡◌, ℕ, ◌+◌, ◌<◌, ◌≤◌, ◌==◌, Bool, true, false, inl, inr, Some, None, List, refl, sym, ap, ◌∙◌, subst, arith}
+use Rattle.std.proofs.lemmas.Bool.{eqb-true, cases_eq}
+use Rattle.dom_forest.specs.Forest.{Forest, empty, tree, times, from, first_content, content_of}
 use Rattle.dom_forest.specs.Edits.{DomState, IsNumbered, changed}
 use Rattle.dom_forest.specs.Ids.{has_id, element_with}
 use Rattle.dom_forest.specs.declared.node.NewNode.{NewNode}
 use Rattle.document_machine.proofs.Spots.{absent}
-use Rattle.page_laws.specs.Nodes.{Nodes, nodes_of, id_count}
+use Rattle.page_laws.specs.Nodes.{nodes_of, id_count}
 use Rattle.page_laws.proofs.Contexts as context
 use Rattle.page_laws.proofs.Contexts.{Context, plug, plug_nodes, nodes_of-plug, id_count-plug}
 use Rattle.page_laws.proofs.PagesLemmas.{one}
 use Rattle.page_laws.proofs.MachineEdits.{from_first, changed_first, found_first}
-use Rattle.page_laws.proofs.Turned.{split_one}
 
 -- Where a node stands.
 pub record Stands (n : ℕ) (forest : Forest) : Type 0 where

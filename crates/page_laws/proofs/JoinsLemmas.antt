@@ -1,14 +1,14 @@
 -- Joins of forests: what is appended twice, and the bytes of what is joined.
-use Rattle.std.proofs.Common.{◌≡◌, ℕ, ◌+◌, ◌==◌, eqb, Bool, true, false, if◌then◌else◌, List, ◌++◌, Option, Some, None, refl, sym, ap, ◌∙◌, arith, append_assoc, codes}
+use Rattle.std.proofs.Common.{◌≡◌, ℕ, ◌+◌, ◌==◌, eqb, Bool, true, false, if◌then◌else◌, List, ◌++◌, Option, Some, None, refl, sym, ap, ◌∙◌, arith, append_assoc}
 use Rattle.html_names.specs.Escape.{escape_of}
 use Rattle.html_names.specs.Comments.{comment_spelling}
 use Rattle.dom_forest.specs.Forest.{Forest, empty, tree, count, joined}
-use Rattle.dom_forest.specs.Edits.{DomState, changed, renumbered, with_last}
+use Rattle.dom_forest.specs.Edits.{renumbered, with_last}
 use Rattle.dom_forest.specs.declared.node.NodeId.{NodeId}
 use Rattle.dom_forest.specs.declared.node.NewNode.{NewNode}
 use Rattle.dom_forest.specs.declared.node.NewNode.TheVariants.{Element, Text, Comment}
 use Rattle.std.proofs.lemmas.Bool.{cond-true, cond-false, eq-eqb}
-use Rattle.document_machine.specs.Printing.{element_bytes, page_bytes, said_of, with_forest, with_nodes}
+use Rattle.document_machine.specs.Printing.{element_bytes, page_bytes, said_of, with_forest}
 use Rattle.document_machine.specs.Running.{PageState, innermost}
 
 pub joined-assoc : (a b c : Forest) → joined (joined a b) c ≡ joined a (joined b c)

@@ -1,25 +1,14 @@
 -- The machine's edits of a forest in which what they seek stands once.
-use Rattle.std.proofs.Common.{◌≡◌, ◌≢◌, ℕ, zero, suc, ◌+◌, ◌<◌, ◌≤◌, ◌==◌, eqb, nat_lt, Bool, true, false, if◌then◌else◌, inl, inr, Option, Some, None, Ok, Err, List, [], ◌∷◌, ◌++◌, refl, sym, ap, ◌∙◌, subst, arith, codes}
-use Rattle.std.proofs.lemmas.Bool.{cond-true, cond-false, eqb-true, eq-eqb, cases_eq, cases_lt}
-use Rattle.std.specs.Str.{bytes_eq}
-use Rattle.dom_forest.specs.Forest.{Forest, empty, tree, times, count, joined, or_else, or_id, from, first_tree, first_kids, first_later, first_content, content_of, later_of, previous_after, previous_of}
-use Rattle.dom_forest.specs.Edits.{DomState, IsNumbered, changed, renumbered, without, with_before, with_content, with_digest_at, with_digest, digest_set, part_of, inner_of}
-use Rattle.dom_forest.specs.Boundary.{closing_mark, end_of_boundary}
+use Rattle.std.proofs.Common.{◌≡◌, ◌≢◌, ℕ, ◌+◌, ◌<◌, ◌≤◌, ◌==◌, eqb, Bool, true, false, inl, inr, Some, List, refl, ap, ◌∙◌, arith}
+use Rattle.std.proofs.lemmas.Bool.{cond-true, cond-false, eqb-true, eq-eqb, cases_eq}
+use Rattle.dom_forest.specs.Forest.{Forest, empty, tree, times, count, joined, from}
+use Rattle.dom_forest.specs.Edits.{changed, renumbered}
 use Rattle.dom_forest.specs.Ids.{has_id, element_with}
-use Rattle.dom_forest.specs.declared.node.Mark.TheVariants.{Complete, Pending, Client, End, Space}
 use Rattle.dom_forest.specs.declared.node.NewNode.{NewNode}
-use Rattle.dom_forest.specs.declared.node.NewNode.TheVariants.{Element, Text, Comment}
-use Rattle.fizz_instructions.specs.Bodies.{boundary_id, placeholder_id, segment_id}
-use Rattle.document_machine.specs.Edits.{Edited, closed_with, complete_boundary, complete_from, fill_placeholder, fill_with, fill_from, fill_at, client_render, client_render_from, client_render_at, with_digest_unless_empty, reveal, reveal_at, revealed, marker_of, waiting, waits, from_sibling, without_range, with_children_before, unless_open}
 use Rattle.document_machine.proofs.Spots.{absent}
-use Rattle.page_laws.specs.Nodes.{Nodes, none, node, nodes_of, joined_nodes, id_count}
-use Rattle.page_laws.specs.Pages.{nodes_to_end, placeholder_template, boundary_template, client_template}
-use Rattle.page_laws.specs.Balance.{IsBalanced}
-use Rattle.page_laws.specs.DocumentEdits.{LeavesNodes}
-use Rattle.page_laws.proofs.NodesLemmas.{nodes_of-joined, nodes_of-renumbered, element_with-none}
-use Rattle.page_laws.proofs.Contexts.{Context, plug, plug_nodes, around, around_id, nodes_of-plug, times-plug, id_count-plug, changed-plug, from-plug, previous-plug, element_with-plug, element_with-same}
-use Rattle.page_laws.proofs.IdsLemmas.{bytes_same}
-use Rattle.page_laws.proofs.PagesLemmas.{one, or_false, closing_mark-past}
+use Rattle.page_laws.specs.Nodes.{nodes_of, id_count}
+use Rattle.page_laws.proofs.Contexts.{Context, plug, plug_nodes, around, around_id, nodes_of-plug, times-plug, id_count-plug, changed-plug, from-plug, element_with-plug}
+use Rattle.page_laws.proofs.PagesLemmas.{one}
 
 pub one_self : (i : ℕ) → one (i == i) ≡ 1
 one_self i = ap one (eq-eqb i i refl)

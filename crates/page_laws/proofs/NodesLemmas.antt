@@ -1,9 +1,8 @@
 -- Nodes without ids: joins, numbers and counts.
-use Rattle.std.proofs.Common.{◌≡◌, ℕ, ◌+◌, ◌<◌, ◌≤◌, ◌==◌, Bool, true, false, if◌then◌else◌, Option, Some, None, List, refl, sym, ap, ◌∙◌, subst, arith}
+use Rattle.std.proofs.Common.{◌≡◌, ℕ, ◌+◌, Bool, true, false, if◌then◌else◌, Option, Some, None, List, refl, sym, ap, ◌∙◌, arith}
 use Rattle.dom_forest.specs.Forest.{Forest, empty, tree, count, joined, or_id}
 use Rattle.dom_forest.specs.Edits.{renumbered}
 use Rattle.dom_forest.specs.Ids.{has_id, element_with}
-use Rattle.dom_forest.specs.declared.node.NewNode.{NewNode}
 use Rattle.page_laws.specs.Nodes.{Nodes, none, node, nodes_of, unnumbered, joined_nodes, id_count}
 
 pub joined_nodes-assoc : (a b c : Nodes) → joined_nodes (joined_nodes a b) c ≡ joined_nodes a (joined_nodes b c)

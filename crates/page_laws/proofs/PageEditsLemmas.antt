@@ -1,8 +1,7 @@
 -- The edits of pages as turns of their nodes at one place, and what pages without the id keep.
-use Rattle.std.proofs.Common.{◌≡◌, ℕ, ◌+◌, ◌==◌, eqb, Bool, true, false, if◌then◌else◌, inl, inr, List, [], ◌∷◌, Option, Some, None, refl, sym, ap, ◌∙◌, subst, arith}
+use Rattle.std.proofs.Common.{◌≡◌, ℕ, ◌+◌, ◌==◌, eqb, Bool, true, false, inl, inr, List, Option, Some, None, refl, sym, ap, ◌∙◌, subst, arith}
 use Rattle.std.proofs.lemmas.Bool.{cond-true, cond-false, eqb-true, eq-eqb}
 use Rattle.dom_forest.specs.declared.node.Mark.TheVariants.{Complete, Pending, Client, End, Space}
-use Rattle.dom_forest.specs.declared.node.NewNode.{NewNode}
 use Rattle.dom_forest.specs.declared.node.NewNode.TheVariants.{Element, Text, Comment}
 use Rattle.page_laws.specs.Nodes.{Nodes, none, node, joined_nodes}
 use Rattle.page_laws.specs.Pages.{Page, nothing, text, element, separator, placeholder, complete, pending, client, page_nodes, joined_pages, nodes_to_end, placeholder_template, boundary_template, client_template, one_at, zero_at, weight_of_ids, weight_or_none, placeholder_count, pending_count}
@@ -10,7 +9,7 @@ use Rattle.page_laws.specs.PageEdits.{with_replacements, filled_at, completed_at
 use Rattle.page_laws.specs.Balance.{IsBalanced}
 use Rattle.page_laws.proofs.NodesLemmas.{joined_nodes-assoc}
 use Rattle.page_laws.proofs.PagesLemmas.{one, page_nodes-joined, page_balanced}
-use Rattle.page_laws.proofs.Turned.{Turned, IsOpen, OneTurned, here, under, after, one_turned, split_one, turned_tree, turned_to_end}
+use Rattle.page_laws.proofs.Turned.{Turned, IsOpen, OneTurned, here, after, one_turned, split_one, turned_tree, turned_to_end}
 
 -- a placeholder becomes these nodes
 pub record Fills (prefix : List ℕ) (h : ℕ) (new from to : Nodes) : Type 0 where

@@ -1,9 +1,8 @@
 -- What edits of pages keep: no placeholder, boundaries shown whole, clean elements; and how they change the ids.
-use Rattle.std.proofs.Common.{◌≡◌, ℕ, ◌+◌, ◌≤◌, ◌==◌, eqb, Bool, true, false, if◌then◌else◌, inl, inr, List, [], ◌∷◌, Option, Some, None, refl, sym, ap, ◌∙◌, subst, arith}
+use Rattle.std.proofs.Common.{◌≡◌, ℕ, ◌+◌, ◌≤◌, ◌==◌, eqb, Bool, true, false, if◌then◌else◌, inl, inr, List, Some, refl, sym, ap, ◌∙◌, subst, arith}
 use Rattle.std.proofs.lemmas.Bool.{cond-true, cond-false, eq-eqb}
-use Rattle.page_laws.specs.Pages.{Page, nothing, text, element, separator, placeholder, complete, pending, client, joined_pages, HasNoPlaceholder, IsCleanPage, RevealsWholePage, one_at, zero_at, weight_of_ids, weight_or_none, placeholder_count, pending_count}
+use Rattle.page_laws.specs.Pages.{Page, nothing, text, element, separator, placeholder, complete, pending, client, joined_pages, HasNoPlaceholder, IsCleanPage, RevealsWholePage, one_at, zero_at, weight_of_ids, placeholder_count, pending_count}
 use Rattle.page_laws.specs.PageEdits.{with_replacements, filled_at, completed_at, failed_at, with_placeholder_filled, with_boundary_completed, with_boundary_failed}
-use Rattle.page_laws.proofs.PagesLemmas.{one}
 use Rattle.page_laws.proofs.PageEditsLemmas.{at_none, at_one, with_replacements-none, zero_or_none}
 use Rattle.page_laws.proofs.Turned.{split_one}
 

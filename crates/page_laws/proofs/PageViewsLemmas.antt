@@ -1,5 +1,5 @@
 -- The view of a page, and of a streamed document.
-use Rattle.std.proofs.Common.{◌≡◌, ◌≢◌, ℕ, ◌+◌, ◌==◌, not, ◌&&◌, ◌||◌, Bool, true, false, if◌then◌else◌, Option, Some, None, List, [], ◌∷◌, ◌++◌, length, take, drop, unwrap_or, refl, sym, ap, ◌∙◌, subst, arith, codes, append_assoc}
+use Rattle.std.proofs.Common.{◌≡◌, ℕ, ◌&&◌, ◌||◌, Bool, true, false, Option, Some, None, List, [], ◌∷◌, ◌++◌, length, take, drop, unwrap_or, refl, sym, ap, ◌∙◌, codes, append_assoc}
 use Rattle.std.specs.List.{list_any}
 use Rattle.std.specs.Str.{bytes_eq}
 use Rattle.std.proofs.lemmas.Bool.{cond-true, cond-false}
@@ -12,16 +12,16 @@ use Rattle.html_names.specs.Names.{begins_with}
 use Rattle.html_names.specs.Attributes.{is_reserved}
 use Rattle.html_names.proofs.NamesLemmas.{reserved_after}
 use Rattle.dom_forest.specs.Edits.{DomState, renumbered}
-use Rattle.dom_forest.specs.Forest.{Forest, empty, tree, joined}
-use Rattle.dom_forest.specs.declared.node.Mark.TheVariants.{Complete, Pending, Client, End, Space}
-use Rattle.dom_forest.specs.declared.node.NewNode.TheVariants.{Element, Text, Comment}
+use Rattle.dom_forest.specs.Forest.{Forest}
+use Rattle.dom_forest.specs.declared.node.Mark.TheVariants.{End}
+use Rattle.dom_forest.specs.declared.node.NewNode.TheVariants.{Comment}
 use Rattle.fizz_instructions.specs.Bodies.{segment_id}
 use Rattle.document_machine.specs.declared.status.BoundaryStatus.{BoundaryStatus}
 use Rattle.document_machine.specs.declared.status.BoundaryStatus.TheVariants as status
 use Rattle.document_machine.specs.Views as view
 use Rattle.document_machine.specs.Views.{View, Levels, digest_after, digest_in, ended, followed, has_name, is_container, is_left_out, is_segment_id, levels_of, opened, siblings_of, view_of, with_first}
 use Rattle.page_laws.specs.Nodes.{Nodes, none, node, nodes_of, unnumbered, joined_nodes}
-use Rattle.page_laws.specs.Pages.{Page, nothing, text, element, separator, placeholder, complete, pending, client, IsCleanPage, page_nodes, nodes_to_end, client_attributes, client_template, hidden_attribute, id_attribute, is_reserved_id}
+use Rattle.page_laws.specs.Pages.{Page, nothing, text, element, separator, placeholder, complete, pending, client, IsCleanPage, page_nodes, nodes_to_end, client_attributes, hidden_attribute, id_attribute, is_reserved_id}
 use Rattle.page_laws.specs.Documents.{Container, StreamedDocument, container_nodes, document_nodes}
 use Rattle.page_laws.specs.PageViews.{page_view, siblings_view}
 use Rattle.page_laws.specs.DocumentEdits.{IsStreamed}

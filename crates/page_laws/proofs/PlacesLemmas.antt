@@ -1,17 +1,16 @@
 -- The end of a page's shell and its rest places, of bytes that follow others.
-use Rattle.std.proofs.Common.{◌≡◌, ◌≢◌, ◌⊎◌, ℕ, zero, suc, ◌+◌, ◌-◌, ◌≤◌, ◌<◌, ◌==◌, ◌&&◌, Bool, true, false, if◌then◌else◌, inl, inr, Option, Some, None, List, [], ◌∷◌, ◌++◌, length, take, drop, unwrap_or, refl, sym, ap, ◌∙◌, subst, arith, codes, append_assoc, append-nil, length-append}
-use Rattle.std.proofs.lemmas.Bool.{cases_Bool}
-use Rattle.std.proofs.lemmas.List.{append_cancel_left, take-append-drop}
+use Rattle.std.proofs.Common.{◌≡◌, ℕ, zero, suc, ◌+◌, ◌-◌, ◌≤◌, ◌==◌, ◌&&◌, Bool, true, false, if◌then◌else◌, inl, inr, Option, Some, None, List, [], ◌∷◌, ◌++◌, length, take, unwrap_or, refl, sym, ap, ◌∙◌, subst, arith, codes, append_assoc, append-nil, length-append}
+use Rattle.std.proofs.lemmas.List.{append_cancel_left}
 use Rattle.std.proofs.lemmas.List.Concat.{flat_map-append}
 use Rattle.html_names.specs.declared.comments.CommentKind.TheVariants as comment
-use Rattle.html_read.specs.Faults.{HasSplit, IsBegun, Splits, SplitsBefore, begins_tag, ends_in_text}
+use Rattle.html_read.specs.Faults.{HasSplit, Splits, SplitsBefore, begins_tag, ends_in_text}
 use Rattle.html_read.specs.Tokens.{AreTokens, IsToken, MayFollow, Tokenizes, is_text, spelling, spellings}
 use Rattle.html_read.specs.declared.token.Token.{Token}
 use Rattle.html_read.specs.declared.token.Token.TheVariants as tok
 use Rattle.document_machine.specs.Places.{IsClosedAt, IsRestPlace, IsShellEnd, first_late, open_after, still_open}
 use Rattle.document_machine.specs.Views.{is_container}
 use Rattle.document_machine.proofs.JoinedRuns.{ends_append, text_no_tag}
-use Rattle.document_machine.proofs.MovedTokens.{IsMoved, MayBeTokens, is_moved, may_be_first, may_be_tokens, moved, placed, placed_are, placed_ends, placed_spellings}
+use Rattle.document_machine.proofs.MovedTokens.{MayBeTokens, may_be_first, may_be_tokens, moved, placed, placed_are, placed_ends, placed_spellings}
 use Rattle.page_laws.specs.PagePlaces.{HasLateAt, IsClosed, is_late}
 
 -- The laws of tokens, as they are used here.

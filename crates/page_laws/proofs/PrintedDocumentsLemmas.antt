@@ -1,19 +1,18 @@
 -- A printed document of elements and texts is read back.
-use Rattle.std.proofs.Common.{◌≡◌, ℕ, ◌-◌, ◌≤◌, Bool, true, false, if◌then◌else◌, List, [], ◌∷◌, ◌++◌, length, map, Some, arith, refl, sym, ap, ◌∙◌, subst, codes, append_assoc}
-use Rattle.std.specs.Str.{IsUtf8}
+use Rattle.std.proofs.Common.{◌≡◌, ℕ, ◌-◌, Bool, true, false, if◌then◌else◌, List, [], ◌∷◌, ◌++◌, length, map, Some, arith, refl, sym, ap, ◌∙◌, subst, codes, append_assoc}
 use Rattle.fizz_text.specs.declared.attribute.Attr.{Attr}
 use Rattle.html_names.specs.Escape.{escape_of}
 use Rattle.html_names.specs.Printing.{end_tag, tag_prefix}
-use Rattle.dom_forest.specs.Edits.{DomState, IsNumbered, renumbered}
-use Rattle.dom_forest.specs.Forest.{Forest, empty, tree, count, joined}
-use Rattle.dom_forest.specs.Printing.{Printed, is_void, printed, printed_nodes, printed_step, siblings_bytes, text_bytes}
+use Rattle.dom_forest.specs.Edits.{IsNumbered, renumbered}
+use Rattle.dom_forest.specs.Forest.{Forest, empty, tree}
+use Rattle.dom_forest.specs.Printing.{Printed, is_void, printed, printed_nodes, siblings_bytes, text_bytes}
 use Rattle.dom_forest.specs.declared.document.DocNode.{DocNode}
 use Rattle.dom_forest.specs.declared.document.DocNode.TheFolds.{fold-roll-DocNode, ind-DocNode, map-DocNode}
 use Rattle.dom_forest.specs.declared.document.DocNode.TheOpen.{DocNode-F, Element as element_layer, Text as text_layer}
 use Rattle.dom_forest.specs.declared.document.DocNode.TheVariants as doc
 use Rattle.dom_forest.specs.declared.document.DocNode.TheViews.{roll-DocNode}
 use Rattle.dom_forest.specs.declared.node.Mark.TheVariants.{Space}
-use Rattle.dom_forest.specs.declared.node.NewNode.TheVariants.{Comment, Element, Text}
+use Rattle.dom_forest.specs.declared.node.NewNode.TheVariants.{Comment, Text}
 use Rattle.dom_forest.proofs.OpenElements.{printed-element, printed-text}
 use Rattle.document_machine.specs.Documents.{LeavesNoRest, Runs, RunsWhole, most_open}
 use Rattle.document_machine.specs.Plain.{IsPlain, plain_nodes}

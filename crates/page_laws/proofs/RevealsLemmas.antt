@@ -1,5 +1,5 @@
 -- Content that is shown whole, of forests, of nodes and of pages.
-use Rattle.std.proofs.Common.{◌≡◌, ◌≢◌, ℕ, zero, suc, ◌+◌, ◌-◌, ◌<◌, ◌≤◌, ◌==◌, eqb, not, ◌&&◌, ◌||◌, Bool, true, false, if◌then◌else◌, inl, inr, Option, Some, None, List, [], ◌∷◌, ◌++◌, length, take, drop, get_or, unwrap_or, refl, sym, ap, ◌∙◌, subst, arith, codes, append_assoc}
+use Rattle.std.proofs.Common.{◌≡◌, ℕ, ◌+◌, ◌-◌, ◌<◌, ◌≤◌, ◌==◌, eqb, not, ◌&&◌, ◌||◌, Bool, true, false, inl, inr, Option, Some, None, List, [], ◌∷◌, ◌++◌, length, take, drop, get_or, refl, sym, ap, ◌∙◌, subst, arith, codes, append_assoc}
 use Rattle.std.specs.List.{list_any}
 use Rattle.std.specs.Str.{bytes_eq}
 use Rattle.std.proofs.lemmas.Bool.{cond-true, cond-false, eq-eqb, eqb-true, cases_eq}
@@ -7,7 +7,7 @@ use Rattle.std.proofs.lemmas.List.{take-append-drop}
 use Rattle.std.proofs.lemmas.Slice.Eq.{bytes_eq-Decides}
 use Rattle.fizz_text.specs.Hexadecimal.{hexadecimal}
 use Rattle.html_names.specs.Names.{begins_with}
-use Rattle.dom_forest.specs.Boundary.{closing_mark, end_of_boundary}
+use Rattle.dom_forest.specs.Boundary.{closing_mark}
 use Rattle.dom_forest.specs.Edits.{DomState, IsNumbered}
 use Rattle.dom_forest.specs.Forest.{Forest, empty, tree, times, joined, from, first_content, first_later, content_of, later_of}
 use Rattle.dom_forest.specs.declared.node.Mark.TheVariants.{Complete, Pending, Client, End, Space}
@@ -16,18 +16,18 @@ use Rattle.dom_forest.specs.declared.node.NewNode.TheVariants.{Element, Text, Co
 use Rattle.fizz_instructions.specs.Bodies.{boundary_id}
 use Rattle.std.proofs.lemmas.List.{append_cancel_left}
 use Rattle.document_machine.specs.Reveals.{RevealsWhole, has_placeholder_before, is_placeholder, is_placeholder_id}
-use Rattle.page_laws.specs.Balance.{IsBalanced, closes_all}
-use Rattle.page_laws.specs.Documents.{Container, StreamedDocument, AreClean, container_element, container_nodes, document_nodes}
+use Rattle.page_laws.specs.Balance.{closes_all}
+use Rattle.page_laws.specs.Documents.{Container, StreamedDocument, AreClean, container_nodes}
 use Rattle.page_laws.specs.DocumentEdits.{IsStreamed}
 use Rattle.page_laws.specs.NodeReveals.{EachRevealsWhole, IsPrefixOf, IsWholeAfter, IsWholeUpToEnd, RevealsWholeDocument, RevealsWholeNodes, has_placeholder, stops, cuts, below, past}
 use Rattle.page_laws.specs.Nodes.{Nodes, none, node, nodes_of, joined_nodes}
-use Rattle.page_laws.specs.Pages.{Page, nothing, text, element, separator, placeholder, complete, pending, client, HasNoPlaceholder, IsCleanPage, RevealsWholePage, boundary_template, client_attributes, client_template, digest_attributes, nodes_to_end, page_nodes, placeholder_template}
+use Rattle.page_laws.specs.Pages.{Page, nothing, text, element, separator, placeholder, complete, pending, client, HasNoPlaceholder, IsCleanPage, RevealsWholePage, boundary_template, client_template, page_nodes}
 use Rattle.page_laws.proofs.Contexts.{Context, here, under, after, plug, times-plug}
 use Rattle.page_laws.proofs.FindLemmas.{stands}
 use Rattle.page_laws.proofs.IdsLemmas.{never_true}
 use Rattle.page_laws.proofs.MachineEdits.{from_first, one_self, one_zero, times-joined}
 use Rattle.page_laws.proofs.NodesLemmas.{joined_nodes-assoc, joined_nodes-none, nodes_of-joined}
-use Rattle.page_laws.proofs.PagesLemmas.{both_true, one, page_balanced}
+use Rattle.page_laws.proofs.PagesLemmas.{both_true, page_balanced}
 use Rattle.page_laws.proofs.ViewsLemmas.{ends_at}
 use Rattle.document_machine.proofs.Spots.{absent}
 

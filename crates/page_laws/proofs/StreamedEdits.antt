@@ -1,26 +1,25 @@
 -- The machine's edits of a streamed document are those of its pages.
-use Rattle.std.proofs.Common.{◌≡◌, ℕ, ◌+◌, ◌≤◌, Bool, true, false, List, [], ◌∷◌, ◌++◌, Some, refl, sym, ap, ◌∙◌, subst, arith, codes}
+use Rattle.std.proofs.Common.{◌≡◌, ℕ, ◌+◌, ◌≤◌, true, false, List, [], ◌∷◌, ◌++◌, Some, refl, sym, ap, ◌∙◌, subst, arith}
 use Rattle.dom_forest.specs.Forest.{Forest, empty, tree, times, joined}
-use Rattle.dom_forest.specs.Edits.{DomState, IsNumbered, digest_set}
+use Rattle.dom_forest.specs.Edits.{DomState, IsNumbered}
 use Rattle.dom_forest.specs.Ids.{has_id}
 use Rattle.dom_forest.specs.declared.node.Mark.TheVariants.{Complete, Pending, End}
-use Rattle.dom_forest.specs.declared.node.NewNode.{NewNode}
 use Rattle.dom_forest.specs.declared.node.NewNode.TheVariants.{Comment}
 use Rattle.fizz_instructions.specs.Bodies.{boundary_id, placeholder_id, segment_id}
 use Rattle.document_machine.specs.Edits.{client_render, complete_boundary, fill_placeholder}
 use Rattle.page_laws.specs.Nodes.{Nodes, none, node, nodes_of, joined_nodes, id_count}
 use Rattle.page_laws.specs.Pages.{Page, IsCleanPage, page_nodes, placeholder_template, boundary_template, client_template, placeholder_count, pending_count, client_count, nodes_to_end}
 use Rattle.page_laws.specs.PageEdits.{with_placeholder_filled, with_boundary_completed, with_boundary_failed}
-use Rattle.page_laws.specs.Documents.{Container, StreamedDocument, container_element, container_nodes, document_nodes, edited_pages, sum_of_contents, sum_of_pages, container_count, AreClean}
+use Rattle.page_laws.specs.Documents.{Container, StreamedDocument, container_element, container_nodes, document_nodes, edited_pages, sum_of_pages, container_count, AreClean}
 use Rattle.page_laws.specs.DocumentEdits.{LeavesNodes, IsStreamed, HasContainer}
 use Rattle.page_laws.specs.Balance.{IsBalanced}
 use Rattle.page_laws.proofs.Contexts.{Context, plug, plug_nodes, nodes_of-plug}
-use Rattle.page_laws.proofs.IdsLemmas.{bytes_same, same_kind, segment_no_boundary, segment_no_placeholder}
+use Rattle.page_laws.proofs.IdsLemmas.{bytes_same, segment_no_placeholder}
 use Rattle.page_laws.proofs.NodesLemmas.{id_count-joined}
-use Rattle.page_laws.proofs.PagesLemmas.{one, or_false, placeholder_ids, boundary_ids, segment_ids}
-use Rattle.page_laws.proofs.Turned.{Placed, placed, First, first, Halves, halves, nothing_in}
+use Rattle.page_laws.proofs.PagesLemmas.{or_false, placeholder_ids, boundary_ids, segment_ids}
+use Rattle.page_laws.proofs.Turned.{placed, first, halves, nothing_in}
 use Rattle.page_laws.proofs.PageEditsLemmas.{Fills, Completes, Fails, fills_open, completes_open, fails_open, with_placeholder_filled-none, with_placeholder_filled-turns, with_boundary_completed-none, with_boundary_completed-turns, with_boundary_failed-none, with_boundary_failed-turns}
-use Rattle.page_laws.proofs.DocumentsLemmas.{Leaves, placeholder_ids_in, boundary_ids_in, segment_ids_in, sum_of_both, container_nodes-append, sum_of_contents-append, container_count-append, clean_append, clean_joined, leaves_turns, document_turns}
+use Rattle.page_laws.proofs.DocumentsLemmas.{Leaves, placeholder_ids_in, boundary_ids_in, segment_ids_in, sum_of_both, container_count-append, clean_append, clean_joined, leaves_turns, document_turns}
 use Rattle.page_laws.proofs.MachineEdits.{one_self}
 use Rattle.page_laws.proofs.Filling.{fills}
 use Rattle.page_laws.proofs.Completing.{completes, fails, template_after}

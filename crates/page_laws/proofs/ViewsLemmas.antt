@@ -1,34 +1,23 @@
 -- Views of joined siblings, of pages and of documents.
-use Rattle.std.proofs.Common.{◌≡◌, ◌≢◌, ℕ, zero, suc, ◌+◌, ◌-◌, ◌==◌, not, ◌&&◌, ◌||◌, Bool, true, false, if◌then◌else◌, Option, Some, None, List, [], ◌∷◌, ◌++◌, length, take, drop, unwrap_or, refl, sym, ap, ◌∙◌, subst, arith, codes, append_assoc}
+use Rattle.std.proofs.Common.{◌≡◌, ℕ, ◌+◌, ◌-◌, ◌==◌, not, ◌&&◌, ◌||◌, Bool, true, false, if◌then◌else◌, Some, None, List, [], ◌∷◌, length, refl, sym, ap, ◌∙◌, arith, codes}
 use Rattle.std.specs.List.{list_any}
 use Rattle.std.specs.Str.{bytes_eq}
-use Rattle.std.proofs.lemmas.Bool.{cond-true, cond-false, eqb-true, ne_eqb, eq-eqb, cases_eq}
-use Rattle.std.proofs.lemmas.List.{take-append-drop}
+use Rattle.std.proofs.lemmas.Bool.{cond-true, cond-false, eqb-true}
 use Rattle.std.proofs.lemmas.Slice.Eq.{bytes_eq-Decides}
-use Rattle.std.proofs.Math.Seq.{take-append_seam}
 use Rattle.fizz_text.specs.declared.attribute.Attr.{Attr}
-use Rattle.fizz_text.specs.Hexadecimal.{hexadecimal}
-use Rattle.html_names.specs.Names.{begins_with}
-use Rattle.html_names.specs.Attributes.{is_reserved}
-use Rattle.html_names.proofs.NamesLemmas.{reserved_after}
 use Rattle.dom_forest.specs.Boundary.{closing_mark}
-use Rattle.dom_forest.specs.Edits.{renumbered}
 use Rattle.dom_forest.specs.Forest.{Forest, empty, tree, joined}
 use Rattle.dom_forest.specs.declared.node.Mark.{Mark}
 use Rattle.dom_forest.specs.declared.node.Mark.TheVariants.{Complete, Pending, Client, End, Space}
 use Rattle.dom_forest.specs.declared.node.NewNode.{NewNode}
 use Rattle.dom_forest.specs.declared.node.NewNode.TheVariants.{Element, Text, Comment}
-use Rattle.fizz_instructions.specs.Bodies.{segment_id}
 use Rattle.document_machine.specs.declared.status.BoundaryStatus.{BoundaryStatus}
 use Rattle.document_machine.specs.declared.status.BoundaryStatus.TheVariants as status
 use Rattle.document_machine.specs.Views as view
 use Rattle.document_machine.specs.Views.{View, Levels, digest_after, digest_in, ended, followed, has_name, is_container, is_left_out, is_segment_id, joined_levels, levels_of, marked, opened, siblings_of, view_of, with_first}
-use Rattle.page_laws.specs.Nodes.{Nodes, none, node, nodes_of, unnumbered, joined_nodes}
-use Rattle.page_laws.specs.Pages.{Page, nothing, text, element, separator, placeholder, complete, pending, client, IsCleanPage, page_nodes, nodes_to_end, client_attributes, client_template, boundary_template, placeholder_template, is_reserved_id}
+use Rattle.page_laws.specs.Nodes.{nodes_of}
 use Rattle.page_laws.specs.Balance.{IsBalanced, closes_all}
-use Rattle.page_laws.specs.PageViews.{EndsAt, Begins, completes, waits, fails, page_view, siblings_view}
-use Rattle.page_laws.proofs.NodesLemmas.{joined_nodes-assoc, joined_nodes-none, nodes_of-unnumbered, renumbered-unnumbered, unnumbered-joined}
-use Rattle.page_laws.proofs.IdsLemmas.{never_true}
+use Rattle.page_laws.specs.PageViews.{EndsAt, Begins, completes, waits, fails, siblings_view}
 use Rattle.page_laws.proofs.PagesLemmas.{both_true, not_zero, closing_mark-past}
 
 pub followed-end : (v : View) → followed v view.end ≡ v

@@ -1,6 +1,6 @@
 -- A small page, for worked examples: a boundary that is pending, in it a fallback with a placeholder, and after it an
 -- element with a placeholder.
-use Rattle.std.specs.Prelude.{ℕ, List, [], ◌∷◌, codes}
+use Rattle.std.specs.Prelude.{[], ◌∷◌, codes}
 use Rattle.page_laws.specs.Pages.{Page, nothing, text, element, placeholder, pending}
 use Rattle.page_laws.specs.Documents.{StreamedDocument}
 

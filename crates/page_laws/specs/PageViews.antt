@@ -1,8 +1,8 @@
 -- What is seen of a page, and of siblings at the top of a document or in an element.
-use Rattle.std.specs.Prelude.{◌≡◌, ℕ, Bool, List, [], ◌++◌}
+use Rattle.std.specs.Prelude.{◌≡◌, ℕ, Bool, List, []}
 use Rattle.dom_forest.specs.Forest.{Forest, tree, joined}
 use Rattle.dom_forest.specs.declared.node.Mark.{Mark}
-use Rattle.dom_forest.specs.declared.node.Mark.TheVariants.{Complete, Pending, Client, End, Space}
+use Rattle.dom_forest.specs.declared.node.Mark.TheVariants.{Complete, Pending, Client, End}
 use Rattle.dom_forest.specs.declared.node.NewNode.TheVariants.{Comment}
 use Rattle.document_machine.specs.declared.status.BoundaryStatus.{BoundaryStatus}
 use Rattle.document_machine.specs.declared.status.BoundaryStatus.TheVariants as status

@@ -1,6 +1,6 @@
 -- Pages as React's server renderer prints them: each boundary is a whole, and the ids of segments and boundaries are
 -- numbers.
-use Rattle.std.specs.Prelude.{◌≡◌, ◌≢◌, ℕ, ◌+◌, ◌==◌, Bool, false, ◌&&◌, if◌then◌else◌, List, [], ◌∷◌, ◌++◌, Option, Some, None, codes, unwrap_or}
+use Rattle.std.specs.Prelude.{◌≡◌, ℕ, ◌+◌, ◌==◌, Bool, false, ◌&&◌, if◌then◌else◌, List, [], ◌∷◌, Option, Some, None, codes, unwrap_or}
 use Rattle.std.specs.List.{list_any}
 use Rattle.std.specs.Str.{bytes_eq}
 use Rattle.fizz_text.specs.declared.attribute.Attr.{Attr}
@@ -9,7 +9,7 @@ use Rattle.dom_forest.specs.Edits.{digest_attribute}
 use Rattle.dom_forest.specs.declared.node.Mark.TheVariants.{Complete, Pending, Client, End, Space}
 use Rattle.dom_forest.specs.declared.node.NewNode.{NewNode}
 use Rattle.dom_forest.specs.declared.node.NewNode.TheVariants.{Element, Text, Comment}
-use Rattle.fizz_instructions.specs.Bodies.{boundary_id, segment_id, placeholder_id}
+use Rattle.fizz_instructions.specs.Bodies.{boundary_id, placeholder_id}
 use Rattle.page_laws.specs.Nodes.{Nodes, none, node, joined_nodes}
 
 -- Siblings: none, or a first one with the later ones.
