@@ -8,6 +8,7 @@ mod expr;
 mod file;
 mod name;
 mod node;
+mod part;
 
 pub use expr::Expr;
 pub use file::{Component, File, Stmt};
