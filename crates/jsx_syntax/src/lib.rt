@@ -5,12 +5,16 @@
 #![tactic(auto)]
 
 mod expr;
+mod fault;
 mod file;
 mod name;
 mod node;
 mod part;
+mod stack;
+mod state;
 
 pub use expr::Expr;
+pub use fault::{SyntaxFault, Wanted};
 pub use file::{Component, File, Stmt};
 pub use name::{Entry, Name};
 pub use node::{Node, Prop};
