@@ -1,12 +1,13 @@
 -- The parser as steps, one a word: what a state becomes, or why the word is refused. Private functions compute these;
 -- the public contracts speak of the grammar alone, whose files these accept and no others.
-use Rattle.std.specs.Prelude.{◌≡◌, ℕ, zero, suc, ◌+◌, Bool, true, false, not, ◌&&◌, ◌==◌, if◌then◌else◌, List, [], ◌∷◌, ◌++◌, codes, Option, Some, None, Result, Ok, Err, is_none}
+use Rattle.std.specs.Prelude.{◌≡◌, ℕ, zero, suc, ◌+◌, Bool, true, false, not, ◌&&◌, ◌==◌, if◌then◌else◌, List, [], ◌∷◌, ◌++◌, codes, Option, Some, None, Result, Ok, Err, is_none, option_map}
 use Rattle.std.specs.Str.{bytes_eq}
 use Rattle.jsx_lex.specs.declared.word.Word.{Word}
 use Rattle.jsx_lex.specs.declared.word.Word.TheVariants as w
 use Rattle.jsx_lex.specs.declared.word.Punctuator.{Punctuator}
 use Rattle.jsx_lex.specs.declared.word.Punctuator.TheVariants as p
 use Rattle.jsx_syntax.specs.declared.name.Name.{Name}
+use Rattle.jsx_syntax.specs.declared.name.Entry.{Entry}
 use Rattle.jsx_syntax.specs.declared.expr.Expr.{Expr}
 use Rattle.jsx_syntax.specs.declared.expr.Expr.TheVariants as e
 use Rattle.jsx_syntax.specs.declared.node.Node.{Node}
@@ -94,12 +95,13 @@ fresh place open_ = record { place = place; depth = open_; ors = []; ands = []; 
 abbrev pub nesting : Pending → ℕ
 nesting q = q.depth + q.nots
 
+abbrev pub is_empty : List Expr → Bool
+is_empty [] = true
+is_empty (x ∷ xs) = false
+
+-- an element, an array or a map may be the next operand
 abbrev pub allows_node : Pending → Bool
-allows_node q = q.place && (is_none q.left && (is_empty q.sums && (q.nots == 0)))
-  where
-    is_empty : List Expr → Bool
-    is_empty [] = true
-    is_empty (x ∷ xs) = false
+allows_node q = ((q.place && is_none q.left) && is_empty q.sums) && (q.nots == 0)
 
 abbrev pub dotted : Expr → Dotted
 dotted x = record { of = x; names = [] }
@@ -156,11 +158,7 @@ after_part q (Other x) stack = inside (i.Node q x) stack
 abbrev pub names_before_map : List (List ℕ) → Option (List (List ℕ))
 names_before_map [] = None
 names_before_map (x ∷ []) = if bytes_eq x (codes "map") then Some [] else None
-names_before_map (x ∷ y ∷ more) = after_first (names_before_map (y ∷ more))
-  where
-    after_first : Option (List (List ℕ)) → Option (List (List ℕ))
-    after_first None = None
-    after_first (Some names) = Some (x ∷ names)
+names_before_map (x ∷ y ∷ more) = option_map (λ names. x ∷ names) (names_before_map (y ∷ more))
 
 -- Elements
 
@@ -177,22 +175,19 @@ abbrev pub holds_children : Option Name → Bool
 holds_children None = true
 holds_children (Some name) = takes_children name.text
 
+abbrev pub element_named : Option Name → List (Entry Node) → List Node → Node
+element_named None props kids = n.Fragment kids
+element_named (Some name) props kids = element_of name props kids
+
 abbrev pub element_node : Opened → Node
-element_node x = named x.name
-  where
-    named : Option Name → Node
-    named None = n.Fragment x.kids
-    named (Some name) = element_of name x.props x.kids
+element_node x = element_named x.name x.props x.kids
 
 -- what comes after a whole element
-abbrev pub deliver : Node → List Frame → Word → Moved
-deliver node [] word = Err wanted.Token
-deliver node (frame ∷ stack) word = to_frame frame
-  where
-    to_frame : Frame → Moved
-    to_frame (f.Operand q) = Ok (inside (i.Node q node) stack)
-    to_frame (f.Kid x) = Ok (in_element (t.Children (with_kid x node)) stack)
-    to_frame _ = Err wanted.Token
+abbrev pub deliver : Node → List Frame → Moved
+deliver node [] = Err wanted.Token
+deliver node (f.Operand q ∷ stack) = Ok (inside (i.Node q node) stack)
+deliver node (f.Kid x ∷ stack) = Ok (in_element (t.Children (with_kid x node)) stack)
+deliver node (_ ∷ stack) = Err wanted.Token
 
 -- The end of an expression
 
@@ -224,10 +219,10 @@ component_of draft result =
     } ∷ []
 
 -- after an item of an array
-abbrev pub close_item : Pending → List Node → Part → List Frame → Word → Moved
-close_item q items x stack word =
-    if is_sign p.Comma word then Ok (inside (i.ArrayNext q (items ++ node_of x ∷ [])) stack)
-    else if is_sign p.CloseBracket word then Ok (inside (i.Node q (n.Array (items ++ node_of x ∷ []))) stack)
+abbrev pub close_item : Pending → List Node → List Frame → Word → Moved
+close_item q items stack word =
+    if is_sign p.Comma word then Ok (inside (i.ArrayNext q items) stack)
+    else if is_sign p.CloseBracket word then Ok (inside (i.Node q (n.Array items)) stack)
     else Err (refusal (q.depth + 1) word)
 
 abbrev pub map_of : Mapping → Name → Option Name → Part → Node
@@ -256,14 +251,14 @@ close (f.Parens q) x stack word = expect (nesting q + 1) p.CloseParen word (afte
 close (f.Yes c) x stack word =
     expect (c.depth + 1) p.Colon word (inside (i.Operand (fresh c.place (c.depth + 1))) (f.No c x ∷ stack))
 close (f.No c one) x stack word = Err wanted.Token
-close (f.Item q items) x stack word = close_item q items x stack word
+close (f.Item q items) x stack word = close_item q (items ++ node_of x ∷ []) stack word
 close (f.MapBody mapping item number_) x stack word =
     expect (mapping.pending.depth + 1) p.CloseParen word
     (inside (i.Node mapping.pending (map_of mapping item number_ x)) stack)
 close (f.Attribute tag name) x stack word =
-    expect (tag.depth + 2) p.CloseBrace word (in_element (t.Attributes (with_attribute tag name (node_of x))) stack)
+    expect (tag.depth + 1 + 1) p.CloseBrace word (in_element (t.Attributes (with_attribute tag name (node_of x))) stack)
 close (f.Child opened) x stack word =
-    expect (opened.depth + 2) p.CloseBrace word (in_element (t.Children (with_kid opened (node_of x))) stack)
+    expect (opened.depth + 1 + 1) p.CloseBrace word (in_element (t.Children (with_kid opened (node_of x))) stack)
 close (f.Operand q) x stack word = Err wanted.Token
 close (f.Kid opened) x stack word = Err wanted.Token
 
@@ -376,14 +371,14 @@ abbrev pub step_in_map : InMap → List Frame → Word → Moved
 step_in_map (m.Open mapping) stack word =
     expect (mapping.pending.depth + 1) p.OpenParen word (in_map (m.Item mapping) stack)
 step_in_map (m.Item mapping) stack word =
-    name_then (code_name (mapping.pending.depth + 2) word) (λ name. in_map (m.ItemEnd mapping name) stack)
+    name_then (code_name (mapping.pending.depth + 1 + 1) word) (λ name. in_map (m.ItemEnd mapping name) stack)
 step_in_map (m.ItemEnd mapping item) stack word =
     if is_sign p.Comma word then Ok (in_map (m.Number mapping item) stack)
-    else expect (mapping.pending.depth + 2) p.CloseParen word (in_map (m.Arrow mapping item None) stack)
+    else expect (mapping.pending.depth + 1 + 1) p.CloseParen word (in_map (m.Arrow mapping item None) stack)
 step_in_map (m.Number mapping item) stack word =
-    name_then (code_name (mapping.pending.depth + 2) word) (λ name. in_map (m.NumberEnd mapping item name) stack)
+    name_then (code_name (mapping.pending.depth + 1 + 1) word) (λ name. in_map (m.NumberEnd mapping item name) stack)
 step_in_map (m.NumberEnd mapping item number_) stack word =
-    expect (mapping.pending.depth + 2) p.CloseParen word (in_map (m.Arrow mapping item (Some number_)) stack)
+    expect (mapping.pending.depth + 1 + 1) p.CloseParen word (in_map (m.Arrow mapping item (Some number_)) stack)
 step_in_map (m.Arrow mapping item number_) stack word =
     expect (mapping.pending.depth + 1) p.Arrow word
     (inside (i.Operand (fresh true (mapping.pending.depth + 1))) (f.MapBody mapping item number_ ∷ stack))
@@ -392,7 +387,7 @@ step_in_map (m.Arrow mapping item number_) stack word =
 
 abbrev pub step_attributes : Tag → List Frame → Word → Moved
 step_attributes tag stack word =
-    if is_sign p.SlashGreater word then deliver (element_of tag.name tag.props []) stack word
+    if is_sign p.SlashGreater word then deliver (element_of tag.name tag.props []) stack
     else if is_sign p.Greater word then Ok (in_element (t.Children (opened_by tag)) stack)
     else name_then (any_name (tag.depth + 1) word) (λ name. in_element (t.Equals tag name) stack)
 
@@ -404,7 +399,7 @@ step_attribute_value tag name stack (w.Text x) =
     Ok (in_element (t.Attributes (with_attribute tag name (n.Value (e.Text x)))) stack)
 step_attribute_value tag name stack (w.Sign sign) =
     if is_sign p.OpenBrace (w.Sign sign) && has_room (tag.depth + 1)
-    then Ok (inside (i.Operand (fresh (fallback_place tag name) (tag.depth + 2))) (f.Attribute tag name ∷ stack))
+    then Ok (inside (i.Operand (fresh (fallback_place tag name) (tag.depth + 1 + 1))) (f.Attribute tag name ∷ stack))
     else Err (refusal (tag.depth + 1) (w.Sign sign))
 step_attribute_value tag name stack (w.Name text place) = Err wanted.Token
 step_attribute_value tag name stack (w.Number z) = Err wanted.Token
@@ -439,8 +434,8 @@ child_refusal (Err wanted_) = wanted_
 abbrev pub step_braces : Opened → List Frame → Word → Moved
 step_braces x stack word =
     if is_sign p.CloseBrace word then Ok (in_element (t.Children x) stack)
-    else if holds_children x.name then step_operand (fresh true (x.depth + 2)) (f.Child x ∷ stack) word
-    else Err (child_refusal (step_operand (fresh true (x.depth + 2)) [] word))
+    else if holds_children x.name then step_operand (fresh true (x.depth + 1 + 1)) (f.Child x ∷ stack) word
+    else Err (child_refusal (step_operand (fresh true (x.depth + 1 + 1)) [] word))
 
 abbrev pub same_name : Option Name → List ℕ → Bool
 same_name None text = false
@@ -453,7 +448,7 @@ abbrev pub step_close_name : Opened → List Frame → Word → Moved
 step_close_name x stack (w.Name text place) =
     if same_name x.name text then Ok (in_element (t.CloseEnd x) stack) else Err wanted.CloseName
 step_close_name x stack (w.Sign sign) =
-    if is_sign p.Greater (w.Sign sign) && is_fragment x then deliver (element_node x) stack (w.Sign sign)
+    if is_sign p.Greater (w.Sign sign) && is_fragment x then deliver (element_node x) stack
     else Err (refusal (x.depth + 1) (w.Sign sign))
 step_close_name x stack (w.Number z) = Err wanted.Token
 step_close_name x stack (w.Text y) = Err wanted.Token
@@ -476,7 +471,7 @@ step_in_element (t.Children x) stack word = step_children x stack word
 step_in_element (t.Braces x) stack word = step_braces x stack word
 step_in_element (t.CloseName x) stack word = step_close_name x stack word
 step_in_element (t.CloseEnd x) stack word =
-    if is_sign p.Greater word then deliver (element_node x) stack word else Err (refusal (x.depth + 1) word)
+    if is_sign p.Greater word then deliver (element_node x) stack else Err (refusal (x.depth + 1) word)
 
 -- Steps outside expressions
 
