@@ -1,3 +1,4 @@
 pub mod Complete
 pub mod Zipper
 pub mod Closings
+pub mod Sound
