@@ -2,3 +2,4 @@ pub mod Complete
 pub mod Zipper
 pub mod Closings
 pub mod Sound
+pub mod Alive

@@ -127,7 +127,7 @@ sign_is sign (w.Number z) h = absurd (cc)
 sign_is sign (w.Text x) h = absurd (cc)
 sign_is sign (w.JsxText x) h = absurd (cc)
 
-on_sign : (sign : Punctuator) (word : Word) (words : List Word → List Word) (x y : Moved)
+pub on_sign : (sign : Punctuator) (word : Word) (words : List Word → List Word) (x y : Moved)
     → Good words (w.Sign sign) x → Good words word y → Good words word (if is_sign sign word then x else y)
 on_sign sign word words x y yes_ no_ =
     if_true (is_sign sign word) x y (Good words word) (λ is. subst (λ (v : Word). Good words v x) (sym (sign_is sign word is)) yes_) no_
@@ -151,7 +151,7 @@ on_sign_at sign word words x y yes_ no_ =
     if_true (is_sign sign word) (x word) y (Good words word)
     (λ is. subst (λ (v : Word). Good words v (x v)) (sym (sign_is sign word is)) yes_) no_
 
-text_is : (x y : List ℕ) → bytes_eq x y ≡ true → x ≡ y
+pub text_is : (x y : List ℕ) → bytes_eq x y ≡ true → x ≡ y
 text_is x y h = (bytes_eq-Decides x y).0 h
 
 on_word : (text : List ℕ) (word : Word) (words : List Word → List Word) (x y : Moved)
@@ -189,7 +189,7 @@ on_any_name k (w.JsxText v) words next yes_ = tt
 abbrev here_outside : (x : Outside) (fs : List Frame) → At (position.Outside x) fs → List Word → List Word
 here_outside x fs z = at_words (position.Outside x) fs z
 
-sound_outside : (x : Outside) (fs : List Frame) (z : At (position.Outside x) fs) (word : Word)
+pub sound_outside : (x : Outside) (fs : List Frame) (z : At (position.Outside x) fs) (word : Word)
     → Good (here_outside x fs z) word (steps.step_outside x fs word)
 sound_outside (o.File components) fs z word = on_word (codes "function") word (here_outside (o.File components) fs z) _ _
     (λ place. record { at = record { here = (z.here, place); below = z.below }; words_are = λ more. refl }) tt
@@ -255,7 +255,7 @@ sound_outside (o.BodyEnd components) fs z word = on_sign p.CloseBrace word (here
         words_are = λ more. ap (λ (ws : List Word). stack_words fs file z.below (body_words z.here.draft r (w.Name (codes "return") z.here.place ∷ ws))) (u.words_are (w.Sign p.Semicolon ∷ w.Sign p.CloseBrace ∷ more))
     }) tt
 
-abbrev fresh_before : (place : Bool) (d : ℕ) → Before (fresh place d)
+abbrev pub fresh_before : (place : Bool) (d : ℕ) → Before (fresh place d)
 fresh_before place d = record { ors = inl refl; ands = inl refl; left = tt; sums = inl refl; nots = tt }
 
 -- The end of an expression.
@@ -264,19 +264,19 @@ abbrev ended : (frame : Frame) (fs : List Frame) (place : Bool) (d : ℕ) → St
 ended frame fs place d z x r more = stack_words (frame ∷ fs) (part place d) z (part_words x place d r more)
 
 -- a part where its place and depth are known
-abbrev part_at : (x : Part) (pl other : Bool) (d e_ : ℕ) → pl ≡ other → d ≡ e_ → PartRead x pl d → PartRead x other e_
+abbrev pub part_at : (x : Part) (pl other : Bool) (d e_ : ℕ) → pl ≡ other → d ≡ e_ → PartRead x pl d → PartRead x other e_
 part_at (Value x) pl other d e_ p_ q_ r = at_depth g.expression x d e_ q_ r
 part_at (Other x) pl other d e_ p_ q_ r = (sym p_ ∙ r.0, at_depth g.node (Other x) d e_ q_ r.1)
 
-part_at-words : (x : Part) (pl other : Bool) (d e_ : ℕ) (p_ : pl ≡ other) (q_ : d ≡ e_) (r : PartRead x pl d) (more : List Word)
+pub part_at-words : (x : Part) (pl other : Bool) (d e_ : ℕ) (p_ : pl ≡ other) (q_ : d ≡ e_) (r : PartRead x pl d) (more : List Word)
     → part_words x other e_ (part_at x pl other d e_ p_ q_ r) more ≡ part_words x pl d r more
 part_at-words (Value x) pl other d e_ p_ q_ r more = refl
 part_at-words (Other x) pl other d e_ p_ q_ r more = refl
 
-true_false : true ≡ false → ⊥
+pub true_false : true ≡ false → ⊥
 true_false is = cc
 
-abbrev body_with : (draft : Draft) (stmt : Stmt) (r : Body draft) (c : Syntax g.statement) → tree g.statement c ≡ stmt → Fits g.statement c 1
+abbrev pub body_with : (draft : Draft) (stmt : Stmt) (r : Body draft) (c : Syntax g.statement) → tree g.statement c ≡ stmt → Fits g.statement c 1
     → Body (with_stmt draft stmt)
 body_with draft stmt r c is fits = record {
     head = r.head;
@@ -284,7 +284,7 @@ body_with draft stmt r c is fits = record {
     stmts = record { syntax = g.next_statement r.stmts.syntax c; is = ap2 (λ (xs : List Stmt) (x : Stmt). xs ++ x ∷ []) r.stmts.is is; fits = (r.stmts.fits, fits) }
 }
 
-abbrev kid_read : (x : Opened) (r : OpenedRead x) (node : Node) (c : Syntax g.child) → tree g.child c ≡ node ∷ [] → Fits g.child c (x.depth + 1)
+abbrev pub kid_read : (x : Opened) (r : OpenedRead x) (node : Node) (c : Syntax g.child) → tree g.child c ≡ node ∷ [] → Fits g.child c (x.depth + 1)
     → holds_children x.name ≡ true → OpenedRead (steps.with_kid x node)
 kid_read x r node c is fits holds = record {
     room = r.room;
@@ -293,7 +293,7 @@ kid_read x r node c is fits holds = record {
     only = λ no. absurd (true_false (sym holds ∙ no))
 }
 
-abbrev attribute_read : (tag : Tag) (r : TagRead tag) (name : Name) (node : Node) (words : List Word → List Word)
+abbrev pub attribute_read : (tag : Tag) (r : TagRead tag) (name : Name) (node : Node) (words : List Word → List Word)
     → ReadAs (g.attribute (is_suspense tag.name.text)) (entry name node) (tag.depth + 1) words → TagRead (steps.with_attribute tag name node)
 attribute_read tag r name node words u = record {
     room = r.room;
@@ -329,7 +329,7 @@ part_true-words : (x : Part) (pl : Bool) (d e_ : ℕ) (q_ : d ≡ e_) (r : PartR
 part_true-words (Value x) pl d e_ q_ r more = refl
 part_true-words (Other x) pl d e_ q_ r more = refl
 
-close_sound : (frame : Frame) (fs : List Frame) (place : Bool) (d : ℕ) (z : Stacked (frame ∷ fs) (part place d)) (x : Part) (r : PartRead x place d)
+pub close_sound : (frame : Frame) (fs : List Frame) (place : Bool) (d : ℕ) (z : Stacked (frame ∷ fs) (part place d)) (x : Part) (r : PartRead x place d)
     (word : Word) → Good (ended frame fs place d z x r) word (close frame x fs word)
 close_sound (f.Use draft name) fs place d z (Value v) r word = on_sign p.CloseParen word (ended (f.Use draft name) fs place d z (Value v) r) _ _
     (record {
@@ -487,7 +487,7 @@ close_sound (f.Child x) fs place d z v r word = on_sign p.CloseBrace word (ended
 close_sound (f.Operand q) fs place d z x r word = tt
 close_sound (f.Kid opened) fs place d z x r word = tt
 
-abbrev finished : (fs : List Frame) (place : Bool) (d : ℕ) → Stacked fs (part place d) → (x : Part) → PartRead x place d → List Word → List Word
+abbrev pub finished : (fs : List Frame) (place : Bool) (d : ℕ) → Stacked fs (part place d) → (x : Part) → PartRead x place d → List Word → List Word
 finished fs place d z x r more = stack_words fs (part place d) z (part_words x place d r more)
 
 finish_sound : (fs : List Frame) (place : Bool) (d : ℕ) (z : Stacked fs (part place d)) (x : Part) (r : PartRead x place d)
@@ -698,7 +698,7 @@ sign_sound q fs z word =
         words_are = λ more. refl
     }) tt) tt) tt)))
 
-operand_sound : (q : Pending) (fs : List Frame) (z : At (position.Inside (i.Operand q)) fs) (word : Word)
+pub operand_sound : (q : Pending) (fs : List Frame) (z : At (position.Inside (i.Operand q)) fs) (word : Word)
     → Good (here_inside (i.Operand q) fs z) word (step_operand q fs word)
 operand_sound q fs z (w.Name text place) = named_ (is_reserved text) refl
   where
@@ -718,7 +718,7 @@ operand_sound q fs z (w.Text x) = operand_kept q fs z (w.Text x) (e.Text x) (rec
 operand_sound q fs z (w.JsxText x) = tt
 operand_sound q fs z (w.Sign sign) = sign_sound q fs z (w.Sign sign)
 
-sound_inside : (x : Inside) (fs : List Frame) (z : At (position.Inside x) fs) (word : Word)
+pub sound_inside : (x : Inside) (fs : List Frame) (z : At (position.Inside x) fs) (word : Word)
     → Good (here_inside x fs z) word (steps.step_inside x fs word)
 sound_inside (i.Operand q) fs z word = operand_sound q fs z word
 sound_inside (i.Value q d) fs z word = value_sound q d fs z word
@@ -772,7 +772,7 @@ sound_inside (i.ArrayNext q items) fs z word =
 abbrev here_in_map : (x : InMap) (fs : List Frame) → At (position.InMap x) fs → List Word → List Word
 here_in_map x fs z = at_words (position.InMap x) fs z
 
-sound_in_map : (x : InMap) (fs : List Frame) (z : At (position.InMap x) fs) (word : Word)
+pub sound_in_map : (x : InMap) (fs : List Frame) (z : At (position.InMap x) fs) (word : Word)
     → Good (here_in_map x fs z) word (steps.step_in_map x fs word)
 sound_in_map (m.Open x) fs z word = on_sign p.OpenParen word (here_in_map (m.Open x) fs z) _ _
     (record { at = record { here = z.here; below = z.below }; words_are = λ more. refl }) tt
@@ -843,12 +843,12 @@ attributes_sound tag fs z word =
     })
     (on_any_name (tag.depth + 1) word here _ (λ name. record { at = record { here = z.here; below = z.below }; words_are = λ more. refl })))
 
-abbrev flagged : (tag : Tag) (r : TagRead tag) (name : Name) → TagRead (steps.with_attribute tag name (n.Value (e.Bool true)))
+abbrev pub flagged : (tag : Tag) (r : TagRead tag) (name : Name) → TagRead (steps.with_attribute tag name (n.Value (e.Bool true)))
 flagged tag r name = attribute_read tag r name (n.Value (e.Bool true)) (λ more. name_word name ∷ more)
     (record { read = record { syntax = g.flag name; is = refl; fits = tt }; words_are = λ more. refl })
 
 -- the end of an element
-element_read : (x : Opened) (r : OpenedRead x) (text : List ℕ) (place : ℕ) → steps.same_name x.name text ≡ true
+pub element_read : (x : Opened) (r : OpenedRead x) (text : List ℕ) (place : ℕ) → steps.same_name x.name text ≡ true
     → ReadAs g.element (element_node x) x.depth (λ more. opened_words x r (w.Sign p.LessSlash ∷ w.Name text place ∷ w.Sign p.Greater ∷ more))
 element_read x r text place same = read_named x.name x.props x.depth x.kids r.tag r.room r.kids r.only same
   where
@@ -866,7 +866,7 @@ element_read x r text place same = read_named x.name x.props x.depth x.kids r.ta
             ∷ spell g.children k.syntax (w.Sign p.LessSlash ∷ w.Name v place ∷ w.Sign p.Greater ∷ more))) (sym (text_is text name.text same_))
     }
 
-fragment_read : (x : Opened) (r : OpenedRead x) → steps.is_fragment x ≡ true
+pub fragment_read : (x : Opened) (r : OpenedRead x) → steps.is_fragment x ≡ true
     → ReadAs g.element (element_node x) x.depth (λ more. opened_words x r (w.Sign p.LessSlash ∷ w.Sign p.Greater ∷ more))
 fragment_read x r is = read_unnamed x.name x.props x.depth x.kids r.tag r.room r.kids is
   where
@@ -899,7 +899,7 @@ text_sound x (c ∷ cs) fs z = if_true (holds_children x.name) _ _ (Good (here_i
         words_are = λ more. refl
     }) tt
 
-sound_in_element : (x : InElement) (fs : List Frame) (z : At (position.InElement x) fs) (word : Word)
+pub sound_in_element : (x : InElement) (fs : List Frame) (z : At (position.InElement x) fs) (word : Word)
     → Good (here_in_element x fs z) word (steps.step_in_element x fs word)
 sound_in_element (t.Start d) fs z word = on_sign p.Greater word (here_in_element (t.Start d) fs z) _ _
     (record {
@@ -1001,7 +1001,7 @@ fetched_body draft z =
         ∷ w.Sign p.Assign ∷ w.Name (codes "use") z.used ∷ w.Sign p.OpenParen ∷ spell g.expression z.read.syntax (w.Sign p.CloseParen ∷ w.Sign p.Semicolon ∷ more)))) z.is
     (body_with z.before (s.Fetch z.name z.value) z.body (g.fetch z.place z.name z.used z.read.syntax) (ap (s.Fetch z.name) z.read.is) (z.named, z.read.fits), λ more. refl)
 
-sound_within : (x : Within) (fs : List Frame) (z : At (position.Within x) fs) (word : Word)
+pub sound_within : (x : Within) (fs : List Frame) (z : At (position.Within x) fs) (word : Word)
     → Good (here_within x fs z) word (steps.step_within x fs word)
 sound_within (b.Start draft) fs z word =
     let here = here_within (b.Start draft) fs z in
@@ -1019,13 +1019,13 @@ sound_within (b.ConstValue draft name) fs z word = on_word (codes "use") word (h
     (λ place. record { at = record { here = (z.here.0, z.here.1, z.here.2, place); below = z.below }; words_are = λ more. refl })
     (operand_sound (fresh false 1) (f.Bind draft name ∷ fs) (record {
         here = fresh_before false 1;
-        below = (record { body = z.here.0; place = z.here.1; named = z.here.2; depth_is = refl }, z.below)
+        below = (record { body = z.here.0; place = z.here.1; named = z.here.2; place_is = refl; depth_is = refl }, z.below)
     }) word)
 sound_within (b.UseOpen draft name) fs z word = on_sign p.OpenParen word (here_within (b.UseOpen draft name) fs z) _ _
     (record {
         at = record {
             here = fresh_before false 2;
-            below = (record { body = z.here.0; place = z.here.1; named = z.here.2; used = z.here.3; depth_is = refl }, z.below)
+            below = (record { body = z.here.0; place = z.here.1; named = z.here.2; used = z.here.3; place_is = refl; depth_is = refl }, z.below)
         };
         words_are = λ more. refl
     }) tt
@@ -1033,12 +1033,12 @@ sound_within (b.End draft) fs z word = on_sign p.Semicolon word (here_within (b.
     (let made = fetched_body draft z.here in
     record { at = record { here = made.0; below = z.below }; words_are = λ more. ap (stack_words fs file z.below) (made.1 more) }) tt
 sound_within (b.IfOpen draft) fs z word = on_sign p.OpenParen word (here_within (b.IfOpen draft) fs z) _ _
-    (record { at = record { here = fresh_before false 2; below = (record { body = z.here.0; place = z.here.1; depth_is = refl }, z.below) }; words_are = λ more. refl }) tt
+    (record { at = record { here = fresh_before false 2; below = (record { body = z.here.0; place = z.here.1; place_is = refl; depth_is = refl }, z.below) }; words_are = λ more. refl }) tt
 sound_within (b.ThrowWord draft test) fs z word = on_word (codes "throw") word (here_within (b.ThrowWord draft test) fs z) _ _
     (λ place. record {
         at = record {
             here = fresh_before false 1;
-            below = (record { body = z.here.0; place = z.here.1; tested = z.here.2; thrown = place; depth_is = refl }, z.below)
+            below = (record { body = z.here.0; place = z.here.1; tested = z.here.2; thrown = place; place_is = refl; depth_is = refl }, z.below)
         };
         words_are = λ more. refl
     }) tt

@@ -252,25 +252,29 @@ pub record InKid (x : Opened) (d : ℕ) : Type 0 where
   pub holds : holds_children x.name ≡ true
   pub depth_is : d ≡ x.depth + 1
 
-pub record InUse (draft : Draft) (name : Name) (d : ℕ) : Type 0 where
+pub record InUse (draft : Draft) (name : Name) (place_ : Bool) (d : ℕ) : Type 0 where
+  pub place_is : place_ ≡ false
   pub body : Body draft
   pub place : ℕ
   pub named : IsName name
   pub used : ℕ
   pub depth_is : d ≡ 2
 
-pub record InBind (draft : Draft) (name : Name) (d : ℕ) : Type 0 where
+pub record InBind (draft : Draft) (name : Name) (place_ : Bool) (d : ℕ) : Type 0 where
+  pub place_is : place_ ≡ false
   pub body : Body draft
   pub place : ℕ
   pub named : IsName name
   pub depth_is : d ≡ 1
 
-pub record InIf (draft : Draft) (d : ℕ) : Type 0 where
+pub record InIf (draft : Draft) (place_ : Bool) (d : ℕ) : Type 0 where
+  pub place_is : place_ ≡ false
   pub body : Body draft
   pub place : ℕ
   pub depth_is : d ≡ 2
 
-pub record InThrow (draft : Draft) (test : Expr) (d : ℕ) : Type 0 where
+pub record InThrow (draft : Draft) (test : Expr) (place_ : Bool) (d : ℕ) : Type 0 where
+  pub place_is : place_ ≡ false
   pub body : Body draft
   pub place : ℕ
   pub tested : Read g.expression test 2
@@ -286,10 +290,10 @@ abbrev pub Stacked : List Frame → Hole → Type 0
 Stacked [] file = Unit {0}
 Stacked [] (part place d) = ⊥
 Stacked [] (elem d) = ⊥
-Stacked (f.Use draft name ∷ fs) (part place d) = InUse draft name d × Stacked fs file
-Stacked (f.Bind draft name ∷ fs) (part place d) = InBind draft name d × Stacked fs file
-Stacked (f.If draft ∷ fs) (part place d) = InIf draft d × Stacked fs file
-Stacked (f.Throw draft test ∷ fs) (part place d) = InThrow draft test d × Stacked fs file
+Stacked (f.Use draft name ∷ fs) (part place d) = InUse draft name place d × Stacked fs file
+Stacked (f.Bind draft name ∷ fs) (part place d) = InBind draft name place d × Stacked fs file
+Stacked (f.If draft ∷ fs) (part place d) = InIf draft place d × Stacked fs file
+Stacked (f.Throw draft test ∷ fs) (part place d) = InThrow draft test place d × Stacked fs file
 Stacked (f.Return draft ∷ fs) (part place d) = InReturn draft d × Stacked fs file
 Stacked (f.Parens q ∷ fs) (part place d) = InParens q place d × Stacked fs (part q.place q.depth)
 Stacked (f.Yes c ∷ fs) (part place d) = InYes c place d × Stacked fs (part c.place c.depth)
@@ -303,19 +307,19 @@ Stacked (f.Operand q ∷ fs) (elem d) = InOperand q d × Stacked fs (part q.plac
 Stacked (f.Kid x ∷ fs) (elem d) = InKid x d × Stacked fs (elem x.depth)
 Stacked (frame ∷ fs) hole = ⊥
 
-abbrev pub use_words : (draft : Draft) (name : Name) (d : ℕ) → InUse draft name d → List Word → List Word
-use_words draft name d r more = body_words draft r.body (w.Name (codes "const") r.place ∷ name_word name
+abbrev pub use_words : (draft : Draft) (name : Name) (place_ : Bool) (d : ℕ) → InUse draft name place_ d → List Word → List Word
+use_words draft name place_ d r more = body_words draft r.body (w.Name (codes "const") r.place ∷ name_word name
     ∷ w.Sign p.Assign ∷ w.Name (codes "use") r.used ∷ w.Sign p.OpenParen ∷ more)
 
-abbrev pub bind_words : (draft : Draft) (name : Name) (d : ℕ) → InBind draft name d → List Word → List Word
-bind_words draft name d r more =
+abbrev pub bind_words : (draft : Draft) (name : Name) (place_ : Bool) (d : ℕ) → InBind draft name place_ d → List Word → List Word
+bind_words draft name place_ d r more =
     body_words draft r.body (w.Name (codes "const") r.place ∷ name_word name ∷ w.Sign p.Assign ∷ more)
 
-abbrev pub if_words : (draft : Draft) (d : ℕ) → InIf draft d → List Word → List Word
-if_words draft d r more = body_words draft r.body (w.Name (codes "if") r.place ∷ w.Sign p.OpenParen ∷ more)
+abbrev pub if_words : (draft : Draft) (place_ : Bool) (d : ℕ) → InIf draft place_ d → List Word → List Word
+if_words draft place_ d r more = body_words draft r.body (w.Name (codes "if") r.place ∷ w.Sign p.OpenParen ∷ more)
 
-abbrev pub throw_words : (draft : Draft) (test : Expr) (d : ℕ) → InThrow draft test d → List Word → List Word
-throw_words draft test d r more = body_words draft r.body (w.Name (codes "if") r.place ∷ w.Sign p.OpenParen
+abbrev pub throw_words : (draft : Draft) (test : Expr) (place_ : Bool) (d : ℕ) → InThrow draft test place_ d → List Word → List Word
+throw_words draft test place_ d r more = body_words draft r.body (w.Name (codes "if") r.place ∷ w.Sign p.OpenParen
     ∷ spell g.expression r.tested.syntax (w.Sign p.CloseParen ∷ w.Name (codes "throw") r.thrown ∷ more))
 
 abbrev pub return_words : (draft : Draft) (d : ℕ) → InReturn draft d → List Word → List Word
@@ -323,10 +327,10 @@ return_words draft d r more = body_words draft r.body (w.Name (codes "return") r
 
 abbrev pub stack_words : (fs : List Frame) (hole : Hole) → Stacked fs hole → List Word → List Word
 stack_words [] hole z more = more
-stack_words (f.Use draft name ∷ fs) (part place d) z more = stack_words fs file z.1 (use_words draft name d z.0 more)
-stack_words (f.Bind draft name ∷ fs) (part place d) z more = stack_words fs file z.1 (bind_words draft name d z.0 more)
-stack_words (f.If draft ∷ fs) (part place d) z more = stack_words fs file z.1 (if_words draft d z.0 more)
-stack_words (f.Throw draft test ∷ fs) (part place d) z more = stack_words fs file z.1 (throw_words draft test d z.0 more)
+stack_words (f.Use draft name ∷ fs) (part place d) z more = stack_words fs file z.1 (use_words draft name place d z.0 more)
+stack_words (f.Bind draft name ∷ fs) (part place d) z more = stack_words fs file z.1 (bind_words draft name place d z.0 more)
+stack_words (f.If draft ∷ fs) (part place d) z more = stack_words fs file z.1 (if_words draft place d z.0 more)
+stack_words (f.Throw draft test ∷ fs) (part place d) z more = stack_words fs file z.1 (throw_words draft test place d z.0 more)
 stack_words (f.Return draft ∷ fs) (part place d) z more = stack_words fs file z.1 (return_words draft d z.0 more)
 stack_words (f.Parens q ∷ fs) (part place d) z more =
     stack_words fs (part q.place q.depth) z.1 (before_words q z.0.before (w.Sign p.OpenParen ∷ more))

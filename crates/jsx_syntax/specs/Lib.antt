@@ -3,3 +3,4 @@ pub mod Words
 pub mod Grammar
 pub mod WordTests
 pub mod Steps
+pub mod Refusals

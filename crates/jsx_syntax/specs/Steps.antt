@@ -45,6 +45,8 @@ use Rattle.jsx_syntax.specs.declared.state.Position.TheVariants as at_
 use Rattle.jsx_syntax.specs.declared.state.Frame.{Frame}
 use Rattle.jsx_syntax.specs.declared.state.Frame.TheVariants as f
 use Rattle.jsx_syntax.specs.declared.state.State.{State}
+use Rattle.jsx_syntax.specs.declared.state.Top.{Top}
+use Rattle.jsx_syntax.specs.declared.state.Top.TheVariants as top
 use Rattle.jsx_syntax.specs.Trees.{members_of, member_of, sum_of, and_of, or_of, node_of, choose_part, and_part, or_part, is_suspense, entry, element_of}
 use Rattle.jsx_syntax.specs.Words.{takes_children, is_fallback, is_reserved}
 use Rattle.jsx_syntax.specs.WordTests.{is_sign, is_word, has_room, refusal, code_name, any_name}
@@ -53,13 +55,13 @@ abbrev pub Moved : Type 0
 Moved = Result State Wanted
 
 -- the code's answer is this one, or there was no memory
-abbrev pub Stops : Moved → Stop → Type 0
-Stops moved (Refused wanted_) = moved ≡ Err wanted_
-Stops moved OutOfMemory = Unit {0}
+abbrev pub Stops : {A : Type 0} → Result A Wanted → Stop → Type 0
+Stops answer (Refused wanted_) = answer ≡ Err wanted_
+Stops answer OutOfMemory = Unit {0}
 
-abbrev pub Gives : Moved → Result State Stop → Type 0
-Gives moved (Ok state) = moved ≡ Ok state
-Gives moved (Err stop) = Stops moved stop
+abbrev pub Gives : {A : Type 0} → Result A Wanted → Result A Stop → Type 0
+Gives answer (Ok x) = answer ≡ Ok x
+Gives answer (Err stop) = Stops answer stop
 
 abbrev pub outside : Outside → List Frame → State
 outside x stack = record { position = at_.Outside x; stack = stack }
@@ -183,11 +185,14 @@ abbrev pub element_node : Opened → Node
 element_node x = element_named x.name x.props x.kids
 
 -- what comes after a whole element
+abbrev pub deliver_to : Frame → Node → List Frame → Moved
+deliver_to (f.Operand q) node stack = Ok (inside (i.Node q node) stack)
+deliver_to (f.Kid x) node stack = Ok (in_element (t.Children (with_kid x node)) stack)
+deliver_to _ node stack = Err wanted.Token
+
 abbrev pub deliver : Node → List Frame → Moved
 deliver node [] = Err wanted.Token
-deliver node (f.Operand q ∷ stack) = Ok (inside (i.Node q node) stack)
-deliver node (f.Kid x ∷ stack) = Ok (in_element (t.Children (with_kid x node)) stack)
-deliver node (_ ∷ stack) = Err wanted.Token
+deliver node (frame ∷ stack) = deliver_to frame node stack
 
 -- The end of an expression
 
@@ -225,42 +230,95 @@ close_item q items stack word =
     else if is_sign p.CloseBracket word then Ok (inside (i.Node q (n.Array items)) stack)
     else Err (refusal (q.depth + 1) word)
 
-abbrev pub map_of : Mapping → Name → Option Name → Part → Node
-map_of mapping item number_ body = n.Map mapping.list item number_ (node_of body)
+abbrev pub map_node : Expr → Name → Option Name → Part → Node
+map_node list item number_ body = n.Map list item number_ (node_of body)
 
--- Where the word may end what the frame holds, what comes then.
-abbrev pub close : Frame → Part → List Frame → Word → Moved
-close (f.Use draft name) x stack word =
+abbrev pub map_of : Mapping → Name → Option Name → Part → Node
+map_of mapping item number_ body = map_node mapping.list item number_ body
+
+abbrev pub end_use : Draft → Name → Part → List Frame → Word → Moved
+end_use draft name x stack word =
     if is_sign p.CloseParen word
     then value_then x (λ v. within (b.End (with_stmt draft (s.Fetch name v))) stack)
     else Err (refusal 2 word)
-close (f.Bind draft name) x stack word =
+
+abbrev pub end_bind : Draft → Name → Part → List Frame → Word → Moved
+end_bind draft name x stack word =
     if is_sign p.Semicolon word
     then value_then x (λ v. within (b.Start (with_stmt draft (s.Bind name v))) stack)
     else Err (refusal 1 word)
-close (f.If draft) x stack word =
+
+abbrev pub end_if : Draft → Part → List Frame → Word → Moved
+end_if draft x stack word =
     if is_sign p.CloseParen word then value_then x (λ v. within (b.ThrowWord draft v) stack)
     else Err (refusal 2 word)
-close (f.Throw draft test) x stack word =
+
+abbrev pub end_throw : Draft → Expr → Part → List Frame → Word → Moved
+end_throw draft test x stack word =
     if is_sign p.Semicolon word
     then value_then x (λ v. within (b.Start (with_stmt draft (s.Throw test v))) stack)
     else Err (refusal 1 word)
-close (f.Return draft) x stack word =
+
+abbrev pub end_return : Draft → Part → List Frame → Word → Moved
+end_return draft x stack word =
     expect 1 p.Semicolon word (outside (o.BodyEnd (component_of draft (node_of x))) stack)
-close (f.Parens q) x stack word = expect (nesting q + 1) p.CloseParen word (after_part q x stack)
-close (f.Yes c) x stack word =
+
+abbrev pub end_parens : Pending → Part → List Frame → Word → Moved
+end_parens q x stack word = expect (nesting q + 1) p.CloseParen word (after_part q x stack)
+
+abbrev pub end_yes : Conditional → Part → List Frame → Word → Moved
+end_yes c x stack word =
     expect (c.depth + 1) p.Colon word (inside (i.Operand (fresh c.place (c.depth + 1))) (f.No c x ∷ stack))
-close (f.No c one) x stack word = Err wanted.Token
-close (f.Item q items) x stack word = close_item q (items ++ node_of x ∷ []) stack word
-close (f.MapBody mapping item number_) x stack word =
+
+abbrev pub end_item : Pending → List Node → Part → List Frame → Word → Moved
+end_item q items x stack word = close_item q (items ++ node_of x ∷ []) stack word
+
+abbrev pub end_map : Mapping → Name → Option Name → Part → List Frame → Word → Moved
+end_map mapping item number_ x stack word =
     expect (mapping.pending.depth + 1) p.CloseParen word
     (inside (i.Node mapping.pending (map_of mapping item number_ x)) stack)
-close (f.Attribute tag name) x stack word =
+
+abbrev pub end_attribute : Tag → Name → Part → List Frame → Word → Moved
+end_attribute tag name x stack word =
     expect (tag.depth + 1 + 1) p.CloseBrace word (in_element (t.Attributes (with_attribute tag name (node_of x))) stack)
-close (f.Child opened) x stack word =
+
+abbrev pub end_child : Opened → Part → List Frame → Word → Moved
+end_child opened x stack word =
     expect (opened.depth + 1 + 1) p.CloseBrace word (in_element (t.Children (with_kid opened (node_of x))) stack)
+
+-- Where the word may end what the frame holds, what comes then.
+abbrev pub close : Frame → Part → List Frame → Word → Moved
+close (f.Use draft name) x stack word = end_use draft name x stack word
+close (f.Bind draft name) x stack word = end_bind draft name x stack word
+close (f.If draft) x stack word = end_if draft x stack word
+close (f.Throw draft test) x stack word = end_throw draft test x stack word
+close (f.Return draft) x stack word = end_return draft x stack word
+close (f.Parens q) x stack word = end_parens q x stack word
+close (f.Yes c) x stack word = end_yes c x stack word
+close (f.No c one) x stack word = Err wanted.Token
+close (f.Item q items) x stack word = end_item q items x stack word
+close (f.MapBody mapping item number_) x stack word = end_map mapping item number_ x stack word
+close (f.Attribute tag name) x stack word = end_attribute tag name x stack word
+close (f.Child opened) x stack word = end_child opened x stack word
 close (f.Operand q) x stack word = Err wanted.Token
 close (f.Kid opened) x stack word = Err wanted.Token
+
+-- whether the frame is the last part of a conditional
+abbrev pub top_of : Frame → Top
+top_of (f.No c one) = top.Last c one
+top_of (f.Use draft name) = top.Frame (f.Use draft name)
+top_of (f.Bind draft name) = top.Frame (f.Bind draft name)
+top_of (f.If draft) = top.Frame (f.If draft)
+top_of (f.Throw draft test) = top.Frame (f.Throw draft test)
+top_of (f.Return draft) = top.Frame (f.Return draft)
+top_of (f.Parens q) = top.Frame (f.Parens q)
+top_of (f.Yes c) = top.Frame (f.Yes c)
+top_of (f.Item q items) = top.Frame (f.Item q items)
+top_of (f.MapBody mapping item number_) = top.Frame (f.MapBody mapping item number_)
+top_of (f.Attribute tag name) = top.Frame (f.Attribute tag name)
+top_of (f.Child opened) = top.Frame (f.Child opened)
+top_of (f.Operand q) = top.Frame (f.Operand q)
+top_of (f.Kid opened) = top.Frame (f.Kid opened)
 
 abbrev pub close_top : Part → List Frame → Word → Moved
 close_top x [] word = Err wanted.Token
@@ -294,6 +352,12 @@ abbrev pub step_open : Pending → Dotted → Option (List (List ℕ)) → List 
 step_open q d None stack word = finish (Value (value_of q d)) stack word
 step_open q d (Some names) stack word = step_call q (members_of d.of names) stack
 
+-- after a value where it doesn't go on, unless as the list of a map
+abbrev pub step_end : Pending → Dotted → List Frame → Word → Moved
+step_end q d stack word =
+    if is_sign p.OpenParen word then step_open q d (names_before_map d.names) stack word
+    else finish (Value (value_of q d)) stack word
+
 abbrev pub step_value : Pending → Dotted → List Frame → Word → Moved
 step_value q d stack word =
     if is_sign p.Dot word then Ok (inside (i.Dot q d) stack)
@@ -303,8 +367,7 @@ step_value q d stack word =
     else if is_sign p.AndAnd word then Ok (inside (i.Operand (after_and q d)) stack)
     else if is_sign p.OrOr word then Ok (inside (i.Operand (after_or q d)) stack)
     else if is_sign p.Question word then step_question q d stack
-    else if is_sign p.OpenParen word then step_open q d (names_before_map d.names) stack word
-    else finish (Value (value_of q d)) stack word
+    else step_end q d stack word
 
 abbrev pub operand : Pending → Expr → List Frame → Moved
 operand q x stack = Ok (inside (i.Value q (dotted x)) stack)
@@ -322,22 +385,33 @@ step_operand_name q text place stack =
     if is_reserved text then step_reserved q text stack
     else operand q (e.Name (record { text = text; at = place })) stack
 
+abbrev pub open_parens : Pending → List Frame → Moved
+open_parens q stack =
+    if has_room (nesting q)
+    then Ok (inside (i.Operand (fresh (allows_node q) (nesting q + 1))) (f.Parens q ∷ stack))
+    else Err wanted.Shallower
+
+abbrev pub open_not : Pending → List Frame → Moved
+open_not q stack = if has_room (nesting q) then Ok (inside (i.Operand (after_not q)) stack) else Err wanted.Shallower
+
+abbrev pub open_array : Pending → List Frame → Moved
+open_array q stack =
+    if has_room (nesting q)
+    then (if allows_node q then Ok (inside (i.ArrayStart q) stack) else Err wanted.Value)
+    else Err wanted.Shallower
+
+abbrev pub open_element : Pending → List Frame → Moved
+open_element q stack =
+    if has_room (nesting q)
+    then (if allows_node q then Ok (in_element (t.Start q.depth) (f.Operand q ∷ stack)) else Err wanted.Value)
+    else Err wanted.Shallower
+
 abbrev pub step_operand_sign : Pending → List Frame → Word → Moved
 step_operand_sign q stack word =
-    if is_sign p.OpenParen word
-    then (if has_room (nesting q)
-        then Ok (inside (i.Operand (fresh (allows_node q) (nesting q + 1))) (f.Parens q ∷ stack))
-        else Err wanted.Shallower)
-    else if is_sign p.Not word
-    then (if has_room (nesting q) then Ok (inside (i.Operand (after_not q)) stack) else Err wanted.Shallower)
-    else if is_sign p.OpenBracket word
-    then (if has_room (nesting q)
-        then (if allows_node q then Ok (inside (i.ArrayStart q) stack) else Err wanted.Value)
-        else Err wanted.Shallower)
-    else if is_sign p.Less word
-    then (if has_room (nesting q)
-        then (if allows_node q then Ok (in_element (t.Start q.depth) (f.Operand q ∷ stack)) else Err wanted.Value)
-        else Err wanted.Shallower)
+    if is_sign p.OpenParen word then open_parens q stack
+    else if is_sign p.Not word then open_not q stack
+    else if is_sign p.OpenBracket word then open_array q stack
+    else if is_sign p.Less word then open_element q stack
     else Err (refusal (nesting q) word)
 
 abbrev pub step_operand : Pending → List Frame → Word → Moved
@@ -356,32 +430,53 @@ step_item q items stack word =
 abbrev pub with_name : Dotted → Name → Dotted
 with_name d name = record d { names = d.names ++ name.text ∷ [] }
 
+abbrev pub step_dot : Pending → Dotted → List Frame → Word → Moved
+step_dot q d stack word =
+    name_then (any_name (nesting q) word) (λ name. inside (i.Value q (with_name d name)) stack)
+
 abbrev pub step_inside : Inside → List Frame → Word → Moved
 step_inside (i.Operand q) stack word = step_operand q stack word
 step_inside (i.Value q d) stack word = step_value q d stack word
 step_inside (i.Node q node) stack word = finish (node_part q (Other node)) stack word
-step_inside (i.Dot q d) stack word =
-    name_then (any_name (nesting q) word) (λ name. inside (i.Value q (with_name d name)) stack)
+step_inside (i.Dot q d) stack word = step_dot q d stack word
 step_inside (i.ArrayStart q) stack word = step_item q [] stack word
 step_inside (i.ArrayNext q items) stack word = step_item q items stack word
 
 -- Steps between `list.map` and the body of a map
 
-abbrev pub step_in_map : InMap → List Frame → Word → Moved
-step_in_map (m.Open mapping) stack word =
+abbrev pub step_map_open : Mapping → List Frame → Word → Moved
+step_map_open mapping stack word =
     expect (mapping.pending.depth + 1) p.OpenParen word (in_map (m.Item mapping) stack)
-step_in_map (m.Item mapping) stack word =
+
+abbrev pub step_map_item : Mapping → List Frame → Word → Moved
+step_map_item mapping stack word =
     name_then (code_name (mapping.pending.depth + 1 + 1) word) (λ name. in_map (m.ItemEnd mapping name) stack)
-step_in_map (m.ItemEnd mapping item) stack word =
+
+abbrev pub step_map_item_end : Mapping → Name → List Frame → Word → Moved
+step_map_item_end mapping item stack word =
     if is_sign p.Comma word then Ok (in_map (m.Number mapping item) stack)
     else expect (mapping.pending.depth + 1 + 1) p.CloseParen word (in_map (m.Arrow mapping item None) stack)
-step_in_map (m.Number mapping item) stack word =
+
+abbrev pub step_map_number : Mapping → Name → List Frame → Word → Moved
+step_map_number mapping item stack word =
     name_then (code_name (mapping.pending.depth + 1 + 1) word) (λ name. in_map (m.NumberEnd mapping item name) stack)
-step_in_map (m.NumberEnd mapping item number_) stack word =
+
+abbrev pub step_map_number_end : Mapping → Name → Name → List Frame → Word → Moved
+step_map_number_end mapping item number_ stack word =
     expect (mapping.pending.depth + 1 + 1) p.CloseParen word (in_map (m.Arrow mapping item (Some number_)) stack)
-step_in_map (m.Arrow mapping item number_) stack word =
+
+abbrev pub step_map_arrow : Mapping → Name → Option Name → List Frame → Word → Moved
+step_map_arrow mapping item number_ stack word =
     expect (mapping.pending.depth + 1) p.Arrow word
     (inside (i.Operand (fresh true (mapping.pending.depth + 1))) (f.MapBody mapping item number_ ∷ stack))
+
+abbrev pub step_in_map : InMap → List Frame → Word → Moved
+step_in_map (m.Open mapping) stack word = step_map_open mapping stack word
+step_in_map (m.Item mapping) stack word = step_map_item mapping stack word
+step_in_map (m.ItemEnd mapping item) stack word = step_map_item_end mapping item stack word
+step_in_map (m.Number mapping item) stack word = step_map_number mapping item stack word
+step_in_map (m.NumberEnd mapping item number_) stack word = step_map_number_end mapping item number_ stack word
+step_in_map (m.Arrow mapping item number_) stack word = step_map_arrow mapping item number_ stack word
 
 -- Steps within an element
 
@@ -394,16 +489,24 @@ step_attributes tag stack word =
 abbrev pub fallback_place : Tag → Name → Bool
 fallback_place tag name = is_suspense tag.name.text && is_fallback name.text
 
+abbrev pub open_attribute : Tag → Name → List Frame → Word → Moved
+open_attribute tag name stack word =
+    if is_sign p.OpenBrace word && has_room (tag.depth + 1)
+    then Ok (inside (i.Operand (fresh (fallback_place tag name) (tag.depth + 1 + 1))) (f.Attribute tag name ∷ stack))
+    else Err (refusal (tag.depth + 1) word)
+
 abbrev pub step_attribute_value : Tag → Name → List Frame → Word → Moved
 step_attribute_value tag name stack (w.Text x) =
     Ok (in_element (t.Attributes (with_attribute tag name (n.Value (e.Text x)))) stack)
-step_attribute_value tag name stack (w.Sign sign) =
-    if is_sign p.OpenBrace (w.Sign sign) && has_room (tag.depth + 1)
-    then Ok (inside (i.Operand (fresh (fallback_place tag name) (tag.depth + 1 + 1))) (f.Attribute tag name ∷ stack))
-    else Err (refusal (tag.depth + 1) (w.Sign sign))
+step_attribute_value tag name stack (w.Sign sign) = open_attribute tag name stack (w.Sign sign)
 step_attribute_value tag name stack (w.Name text place) = Err wanted.Token
 step_attribute_value tag name stack (w.Number z) = Err wanted.Token
 step_attribute_value tag name stack (w.JsxText x) = Err wanted.Token
+
+abbrev pub step_equals : Tag → Name → List Frame → Word → Moved
+step_equals tag name stack word =
+    if is_sign p.Assign word then Ok (in_element (t.Value tag name) stack)
+    else step_attributes (with_attribute tag name (n.Value (e.Bool true))) stack word
 
 abbrev pub step_text : Opened → List ℕ → List Frame → Moved
 step_text x [] stack = Ok (in_element (t.Children x) stack)
@@ -411,12 +514,16 @@ step_text x (c ∷ cs) stack =
     if holds_children x.name then Ok (in_element (t.Children (with_kid x (n.Value (e.Text (c ∷ cs))))) stack)
     else Err wanted.NoChildren
 
+abbrev pub open_kid : Opened → List Frame → Moved
+open_kid x stack =
+    if holds_children x.name then Ok (in_element (t.Start (x.depth + 1)) (f.Kid x ∷ stack)) else Err wanted.NoChildren
+
 abbrev pub step_children_sign : Opened → List Frame → Word → Moved
 step_children_sign x stack word =
     if is_sign p.LessSlash word then Ok (in_element (t.CloseName x) stack)
     else if is_sign p.OpenBrace word && has_room (x.depth + 1) then Ok (in_element (t.Braces x) stack)
     else if is_sign p.Less word && has_room (x.depth + 1)
-    then (if holds_children x.name then Ok (in_element (t.Start (x.depth + 1)) (f.Kid x ∷ stack)) else Err wanted.NoChildren)
+    then open_kid x stack
     else Err (refusal (x.depth + 1) word)
 
 abbrev pub step_children : Opened → List Frame → Word → Moved
@@ -431,11 +538,14 @@ abbrev pub child_refusal : Moved → Wanted
 child_refusal (Ok next) = wanted.NoChildren
 child_refusal (Err wanted_) = wanted_
 
+abbrev pub refused_child : ℕ → Word → Moved
+refused_child depth word = Err (child_refusal (step_operand (fresh true depth) [] word))
+
 abbrev pub step_braces : Opened → List Frame → Word → Moved
 step_braces x stack word =
     if is_sign p.CloseBrace word then Ok (in_element (t.Children x) stack)
     else if holds_children x.name then step_operand (fresh true (x.depth + 1 + 1)) (f.Child x ∷ stack) word
-    else Err (child_refusal (step_operand (fresh true (x.depth + 1 + 1)) [] word))
+    else refused_child (x.depth + 1 + 1) word
 
 abbrev pub same_name : Option Name → List ℕ → Bool
 same_name None text = false
@@ -444,12 +554,15 @@ same_name (Some name) text = bytes_eq text name.text
 abbrev pub is_fragment : Opened → Bool
 is_fragment x = is_none x.name
 
+abbrev pub step_fragment_end : Opened → List Frame → Word → Moved
+step_fragment_end x stack word =
+    if is_sign p.Greater word && is_fragment x then deliver (element_node x) stack
+    else Err (refusal (x.depth + 1) word)
+
 abbrev pub step_close_name : Opened → List Frame → Word → Moved
 step_close_name x stack (w.Name text place) =
     if same_name x.name text then Ok (in_element (t.CloseEnd x) stack) else Err wanted.CloseName
-step_close_name x stack (w.Sign sign) =
-    if is_sign p.Greater (w.Sign sign) && is_fragment x then deliver (element_node x) stack
-    else Err (refusal (x.depth + 1) (w.Sign sign))
+step_close_name x stack (w.Sign sign) = step_fragment_end x stack (w.Sign sign)
 step_close_name x stack (w.Number z) = Err wanted.Token
 step_close_name x stack (w.Text y) = Err wanted.Token
 step_close_name x stack (w.JsxText y) = Err wanted.Token
@@ -457,71 +570,109 @@ step_close_name x stack (w.JsxText y) = Err wanted.Token
 abbrev pub empty_fragment : ℕ → Opened
 empty_fragment open_ = record { depth = open_; name = None; props = []; kids = [] }
 
+abbrev pub step_close_end : Opened → List Frame → Word → Moved
+step_close_end x stack word =
+    if is_sign p.Greater word then deliver (element_node x) stack else Err (refusal (x.depth + 1) word)
+
+abbrev pub step_start_tag : ℕ → List Frame → Word → Moved
+step_start_tag depth stack word =
+    if is_sign p.Greater word then Ok (in_element (t.Children (empty_fragment depth)) stack)
+    else name_then (any_name (depth + 1) word)
+        (λ name. in_element (t.Attributes (record { depth = depth; name = name; props = [] })) stack)
+
 abbrev pub step_in_element : InElement → List Frame → Word → Moved
-step_in_element (t.Start open_) stack word =
-    if is_sign p.Greater word then Ok (in_element (t.Children (empty_fragment open_)) stack)
-    else name_then (any_name (open_ + 1) word)
-        (λ name. in_element (t.Attributes (record { depth = open_; name = name; props = [] })) stack)
+step_in_element (t.Start depth) stack word = step_start_tag depth stack word
 step_in_element (t.Attributes tag) stack word = step_attributes tag stack word
-step_in_element (t.Equals tag name) stack word =
-    if is_sign p.Assign word then Ok (in_element (t.Value tag name) stack)
-    else step_attributes (with_attribute tag name (n.Value (e.Bool true))) stack word
+step_in_element (t.Equals tag name) stack word = step_equals tag name stack word
 step_in_element (t.Value tag name) stack word = step_attribute_value tag name stack word
 step_in_element (t.Children x) stack word = step_children x stack word
 step_in_element (t.Braces x) stack word = step_braces x stack word
 step_in_element (t.CloseName x) stack word = step_close_name x stack word
-step_in_element (t.CloseEnd x) stack word =
-    if is_sign p.Greater word then deliver (element_node x) stack else Err (refusal (x.depth + 1) word)
+step_in_element (t.CloseEnd x) stack word = step_close_end x stack word
 
 -- Steps outside expressions
 
 abbrev pub with_property : Signature → Name → Signature
 with_property x name = record x { properties = x.properties ++ name ∷ [] }
 
+abbrev pub step_component_name : List Component → List Frame → Word → Moved
+step_component_name components stack word =
+    name_then (code_name 0 word)
+    (λ name. outside (o.Open (record { components = components; name = name; properties = [] })) stack)
+
+abbrev pub step_properties : Signature → List Frame → Word → Moved
+step_properties x stack word =
+    if is_sign p.OpenBrace word then Ok (outside (o.FirstProperty x) stack)
+    else expect 1 p.CloseParen word (outside (o.Body x) stack)
+
+abbrev pub step_property : Signature → List Frame → Word → Moved
+step_property x stack word =
+    name_then (code_name 2 word) (λ name. outside (o.PropertyEnd (with_property x name)) stack)
+
+abbrev pub step_first_property : Signature → List Frame → Word → Moved
+step_first_property x stack word =
+    if is_sign p.CloseBrace word then Ok (outside (o.Close x) stack) else step_property x stack word
+
+abbrev pub step_property_end : Signature → List Frame → Word → Moved
+step_property_end x stack word =
+    if is_sign p.Comma word then Ok (outside (o.NextProperty x) stack)
+    else expect 2 p.CloseBrace word (outside (o.Close x) stack)
+
+abbrev pub step_body : Signature → List Frame → Word → Moved
+step_body x stack word =
+    expect 0 p.OpenBrace word (within (b.Start (record { signature = x; stmts = [] })) stack)
+
 abbrev pub step_outside : Outside → List Frame → Word → Moved
 step_outside (o.File components) stack word =
     expect_word (codes "function") word (outside (o.Name components) stack)
-step_outside (o.Name components) stack word =
-    name_then (code_name 0 word)
-    (λ name. outside (o.Open (record { components = components; name = name; properties = [] })) stack)
+step_outside (o.Name components) stack word = step_component_name components stack word
 step_outside (o.Open x) stack word = expect 0 p.OpenParen word (outside (o.Properties x) stack)
-step_outside (o.Properties x) stack word =
-    if is_sign p.OpenBrace word then Ok (outside (o.FirstProperty x) stack)
-    else expect 1 p.CloseParen word (outside (o.Body x) stack)
-step_outside (o.FirstProperty x) stack word =
-    if is_sign p.CloseBrace word then Ok (outside (o.Close x) stack)
-    else name_then (code_name 2 word) (λ name. outside (o.PropertyEnd (with_property x name)) stack)
-step_outside (o.NextProperty x) stack word =
-    name_then (code_name 2 word) (λ name. outside (o.PropertyEnd (with_property x name)) stack)
-step_outside (o.PropertyEnd x) stack word =
-    if is_sign p.Comma word then Ok (outside (o.NextProperty x) stack)
-    else expect 2 p.CloseBrace word (outside (o.Close x) stack)
+step_outside (o.Properties x) stack word = step_properties x stack word
+step_outside (o.FirstProperty x) stack word = step_first_property x stack word
+step_outside (o.NextProperty x) stack word = step_property x stack word
+step_outside (o.PropertyEnd x) stack word = step_property_end x stack word
 step_outside (o.Close x) stack word = expect 1 p.CloseParen word (outside (o.Body x) stack)
-step_outside (o.Body x) stack word =
-    expect 0 p.OpenBrace word (within (b.Start (record { signature = x; stmts = [] })) stack)
+step_outside (o.Body x) stack word = step_body x stack word
 step_outside (o.BodyEnd components) stack word = expect 1 p.CloseBrace word (outside (o.File components) stack)
+
+abbrev pub step_return : Draft → List Frame → Word → Moved
+step_return draft stack word =
+    expect_word (codes "return") word (inside (i.Operand (fresh true 1)) (f.Return draft ∷ stack))
 
 abbrev pub step_start : Draft → List Frame → Word → Moved
 step_start draft stack word =
     if is_word (codes "const") word then Ok (within (b.ConstName draft) stack)
     else if is_word (codes "if") word then Ok (within (b.IfOpen draft) stack)
-    else expect_word (codes "return") word (inside (i.Operand (fresh true 1)) (f.Return draft ∷ stack))
+    else step_return draft stack word
+
+abbrev pub step_const_name : Draft → List Frame → Word → Moved
+step_const_name draft stack word = name_then (code_name 1 word) (λ name. within (b.ConstEquals draft name) stack)
+
+abbrev pub step_const_value : Draft → Name → List Frame → Word → Moved
+step_const_value draft name stack word =
+    if is_word (codes "use") word then Ok (within (b.UseOpen draft name) stack)
+    else step_operand (fresh false 1) (f.Bind draft name ∷ stack) word
+
+abbrev pub step_use : Draft → Name → List Frame → Word → Moved
+step_use draft name stack word =
+    expect 1 p.OpenParen word (inside (i.Operand (fresh false 2)) (f.Use draft name ∷ stack))
+
+abbrev pub step_if : Draft → List Frame → Word → Moved
+step_if draft stack word = expect 1 p.OpenParen word (inside (i.Operand (fresh false 2)) (f.If draft ∷ stack))
+
+abbrev pub step_throw : Draft → Expr → List Frame → Word → Moved
+step_throw draft test stack word =
+    expect_word (codes "throw") word (inside (i.Operand (fresh false 1)) (f.Throw draft test ∷ stack))
 
 abbrev pub step_within : Within → List Frame → Word → Moved
 step_within (b.Start draft) stack word = step_start draft stack word
-step_within (b.ConstName draft) stack word =
-    name_then (code_name 1 word) (λ name. within (b.ConstEquals draft name) stack)
+step_within (b.ConstName draft) stack word = step_const_name draft stack word
 step_within (b.ConstEquals draft name) stack word = expect 1 p.Assign word (within (b.ConstValue draft name) stack)
-step_within (b.ConstValue draft name) stack word =
-    if is_word (codes "use") word then Ok (within (b.UseOpen draft name) stack)
-    else step_operand (fresh false 1) (f.Bind draft name ∷ stack) word
-step_within (b.UseOpen draft name) stack word =
-    expect 1 p.OpenParen word (inside (i.Operand (fresh false 2)) (f.Use draft name ∷ stack))
+step_within (b.ConstValue draft name) stack word = step_const_value draft name stack word
+step_within (b.UseOpen draft name) stack word = step_use draft name stack word
 step_within (b.End draft) stack word = expect 1 p.Semicolon word (within (b.Start draft) stack)
-step_within (b.IfOpen draft) stack word =
-    expect 1 p.OpenParen word (inside (i.Operand (fresh false 2)) (f.If draft ∷ stack))
-step_within (b.ThrowWord draft test) stack word =
-    expect_word (codes "throw") word (inside (i.Operand (fresh false 1)) (f.Throw draft test ∷ stack))
+step_within (b.IfOpen draft) stack word = step_if draft stack word
+step_within (b.ThrowWord draft test) stack word = step_throw draft test stack word
 
 abbrev pub step_at : Position → List Frame → Word → Moved
 step_at (at_.Outside x) stack word = step_outside x stack word

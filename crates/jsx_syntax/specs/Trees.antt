@@ -21,17 +21,17 @@ member_of d = members_of d.of d.names
 
 -- A chain of one operand is that operand.
 abbrev pub sum_of : List Expr → Expr
-sum_of [] = e.Null
+sum_of [] = e.Sum []
 sum_of (x ∷ []) = x
 sum_of (x ∷ y ∷ more) = e.Sum (x ∷ y ∷ more)
 
 abbrev pub and_of : List Expr → Expr
-and_of [] = e.Null
+and_of [] = e.And []
 and_of (x ∷ []) = x
 and_of (x ∷ y ∷ more) = e.And (x ∷ y ∷ more)
 
 abbrev pub or_of : List Expr → Expr
-or_of [] = e.Null
+or_of [] = e.Or []
 or_of (x ∷ []) = x
 or_of (x ∷ y ∷ more) = e.Or (x ∷ y ∷ more)
 
@@ -40,10 +40,20 @@ abbrev pub node_of : Part → Node
 node_of (Value x) = n.Value x
 node_of (Other x) = x
 
+abbrev pub value_choice : Expr → Expr → Expr → Part
+value_choice test one other = Value (e.Choose test one other)
+
+abbrev pub node_choice : Expr → Node → Node → Part
+node_choice test one other = Other (n.Choose test one other)
+
+-- A conditional of two values is a value.
 abbrev pub choose_part : Expr → Part → Part → Part
-choose_part test (Value one) (Value other) = Value (e.Choose test one other)
-choose_part test (Value one) (Other other) = Other (n.Choose test (n.Value one) other)
-choose_part test (Other one) other = Other (n.Choose test one (node_of other))
+choose_part test (Value one) (Value other) = value_choice test one other
+choose_part test (Value one) (Other other) = node_choice test (n.Value one) other
+choose_part test (Other one) other = node_choice test one (node_of other)
+
+abbrev pub other : Node → Part
+other node = Other node
 
 -- The last operand of a chain, after the operands before it.
 abbrev pub and_part : List Expr → Part → Part

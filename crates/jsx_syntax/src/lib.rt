@@ -13,6 +13,7 @@ mod part;
 mod stack;
 mod state;
 
+
 pub use expr::Expr;
 pub use fault::{SyntaxFault, Wanted};
 pub use file::{Component, File, Stmt};
