@@ -1,8 +1,7 @@
 -- From each state that the parser reaches some file goes on: `alive_at`.
-use Rattle.std.proofs.Common.{◌≡◌, ℕ, zero, suc, ◌+◌, Bool, true, false, List, [], ◌∷◌, ◌++◌, codes, Option, Some, None, Ok, Err, ◌⊎◌, inl, inr, refl, sym, ap, subst, ◌∙◌, add-zero, arith, ◌&&◌, ◌==◌, eqb-true, is_none, option_map, if◌then◌else◌, get_or, append-nil, pos}
+use Rattle.std.proofs.Common.{◌≡◌, ℕ, ◌+◌, Bool, true, false, List, [], ◌∷◌, ◌++◌, codes, Option, Some, None, Ok, Err, refl, sym, ap, subst, ◌∙◌, is_none, if◌then◌else◌, pos}
 use Rattle.jsx_lex.specs.declared.word.Word.{Word}
 use Rattle.jsx_lex.specs.declared.word.Word.TheVariants as w
-use Rattle.jsx_lex.specs.declared.word.Punctuator.{Punctuator}
 use Rattle.jsx_lex.specs.declared.word.Punctuator.TheVariants as p
 use Rattle.jsx_syntax.specs.declared.name.Name.{Name}
 use Rattle.jsx_syntax.specs.declared.name.Entry.{Entry}
@@ -12,13 +11,10 @@ use Rattle.jsx_syntax.specs.declared.part.Part.{Part}
 use Rattle.jsx_syntax.specs.declared.part.Part.TheVariants.{Value, Other}
 use Rattle.jsx_syntax.specs.declared.part.Dotted.{Dotted}
 use Rattle.jsx_syntax.specs.declared.file.Component.{Component}
-use Rattle.jsx_syntax.specs.declared.file.Stmt.{Stmt}
 use Rattle.jsx_syntax.specs.declared.file.Stmt.TheVariants as s
-use Rattle.jsx_syntax.specs.declared.state.Left.{Left}
 use Rattle.jsx_syntax.specs.declared.state.Signature.{Signature}
 use Rattle.jsx_syntax.specs.declared.state.Draft.{Draft}
 use Rattle.jsx_syntax.specs.declared.state.Pending.{Pending}
-use Rattle.jsx_syntax.specs.declared.state.Conditional.{Conditional}
 use Rattle.jsx_syntax.specs.declared.state.Mapping.{Mapping}
 use Rattle.jsx_syntax.specs.declared.state.Tag.{Tag}
 use Rattle.jsx_syntax.specs.declared.state.Opened.{Opened}
@@ -36,35 +32,29 @@ use Rattle.jsx_syntax.specs.declared.state.InMap.{InMap}
 use Rattle.jsx_syntax.specs.declared.state.InMap.TheVariants as m
 use Rattle.jsx_syntax.specs.declared.state.InElement.{InElement}
 use Rattle.jsx_syntax.specs.declared.state.InElement.TheVariants as t
-use Rattle.jsx_syntax.specs.Trees.{or_of, sum_of, member_of, node_of, is_suspense}
-use Rattle.jsx_syntax.specs.Words.{name_word}
+use Rattle.jsx_syntax.specs.Trees.{node_of}
 use Rattle.jsx_syntax.specs.Grammar.{Sort, Syntax, Meaning, spell, tree, Fits, HasRoom, IsName, AreNames, equal_sign}
 use Rattle.jsx_syntax.specs.Grammar as g
 use Rattle.jsx_syntax.specs.Steps.{allows_node, nesting, holds_children, fallback_place, dotted, component_of, with_stmt, same_name}
-
 use Rattle.jsx_syntax.specs.declared.expr.Expr.TheVariants as e
 use Rattle.jsx_syntax.specs.declared.node.Node.TheVariants as n
-use Rattle.jsx_syntax.specs.Trees.{and_of, choose_part, or_part, and_part, entry}
+use Rattle.jsx_syntax.specs.Trees.{choose_part}
 use Rattle.jsx_syntax.specs.Steps.{nots_of, equal_of, sums_of, ands_of, ors_of, value_of, node_part, is_empty}
-use Rattle.jsx_syntax.specs.Words.{is_fallback}
-use Rattle.jsx_syntax.proofs.Zipper.{Read, Sums, Ands, Ors, sums_words, ands_words, ors_words, LeftSide, Lefts, left_words, Nots, nots_words, Before, before_words, PartRead, part_words, Test, AtValue, AtNode, AtItem, Listed, listed_words, Head, head_words, Body, body_words, TagRead, tag_words, OpenTag, open_words, OpenedRead, opened_words, Mapped, mapped_words, names_words, within_words, Hole, file, part, elem, InYes, InNo, Stacked, stack_words, Finished, Fetched, At, at_words, AtPosition}
-use Rattle.jsx_syntax.proofs.Closings.{ap2, ap3, ReadAs, PartAs, at_depth, nots_words-add, Nots-add, sums_closed, ands_closed, ors_closed, value_closed, allows_is, nesting-allows, node_read, node_closed, choose_closed, listed_closed, braced_read}
+use Rattle.jsx_syntax.proofs.Zipper.{Read, PartRead, part_words, Body, body_words, Hole, file, part, elem, Stacked, stack_words, At, at_words}
+use Rattle.jsx_syntax.proofs.Closings.{value_closed, node_closed, choose_closed}
 use Rattle.jsx_syntax.specs.declared.state.State.{State}
-use Rattle.jsx_syntax.specs.declared.fault.Wanted.{Wanted}
 use Rattle.jsx_syntax.specs.declared.fault.Wanted.TheVariants as wanted
-use Rattle.jsx_syntax.specs.WordTests.{is_sign, is_word, has_room, refusal, code_name, any_name, punctuator_number}
+use Rattle.jsx_syntax.specs.WordTests.{code_name}
 use Rattle.jsx_syntax.specs.Steps as steps
 use Rattle.jsx_syntax.specs.Steps.{Moved, finish, close, step_value, step_operand, name_then, names_before_map, inside, fresh, operand, element_node, element_named, run, first_state}
-use Rattle.std.specs.Prelude.{Result}
 use Rattle.std.specs.Str.{bytes_eq}
 use Rattle.std.proofs.lemmas.Slice.Eq.{bytes_eq-Decides}
 use Rattle.jsx_syntax.specs.Words.{is_reserved}
-use Rattle.jsx_syntax.specs.Trees.{element_of, members_of}
-
+use Rattle.jsx_syntax.specs.Trees.{element_of}
 use Rattle.jsx_syntax.specs.declared.file.File.{File}
 use Rattle.jsx_syntax.specs.Grammar.{SpellsFile}
 use Rattle.jsx_syntax.specs.Words.{reserved_words}
-use Rattle.jsx_syntax.proofs.Sound.{Kept, Good, sound_outside, sound_within, sound_inside, sound_in_map, sound_in_element, close_sound, operand_sound, true_false, kid_read, body_with, part_at, part_at-words, flagged, element_read, fragment_read, finished, fresh_before}
+use Rattle.jsx_syntax.proofs.Sound.{Kept, Good, sound_outside, sound_within, sound_inside, sound_in_map, sound_in_element, close_sound, operand_sound, true_false, kid_read, body_with, part_at, part_at-words, flagged, element_read, fragment_read, finished}
 
 -- Some file goes on from what was read.
 pub record Alive (words : List Word → List Word) : Type 0 where
@@ -102,15 +92,15 @@ bytes_same x = (bytes_eq-Decides x x).1 refl
 abbrev zero_read : (d : ℕ) → Read g.expression (e.Int (pos 0)) d
 zero_read d = record { syntax = g.no_choice (g.no_or (g.no_and (g.no_equal (g.no_plus (g.no_bang (g.no_member (g.number (pos 0)))))))); is = refl; fits = tt }
 
-no_file : (frame : Frame) (fs : List Frame) → Stacked (frame ∷ fs) file → ⊥
+pub no_file : (frame : Frame) (fs : List Frame) → Stacked (frame ∷ fs) file → ⊥
 no_file (f.Use draft name) fs z = z
 no_file _ fs z = z
 
 alive_file : (fs : List Frame) (components : List Component) (z : At (position.Outside (o.File components)) fs) → Alive (at_words (position.Outside (o.File components)) fs z)
 alive_file [] components z = record {
-    more = [];
-    file_ = record { components = components };
-    spells = record { syntax = z.here.syntax; fits = z.here.fits; spelled = refl; tree_is = z.here.is }
+  more = [];
+  file_ = record { components = components };
+  spells = record { syntax = z.here.syntax; fits = z.here.fits; spelled = refl; tree_is = z.here.is };
 }
 alive_file (frame ∷ fs) components z = absurd (no_file frame fs z.below)
 
@@ -217,7 +207,7 @@ alive_if draft fs ih pl d z (Other v) r = absurd (true_false (sym r.0 ∙ z.0.pl
 alive_if draft fs ih pl d z (Value v) r =
     let stmt = s.Throw v (e.Int (pos 0)) in
     let body_ : Body (with_stmt draft stmt) = body_with draft stmt z.0.body (g.throw z.0.place r.syntax 0 (zero_read 1).syntax) (ap (λ (y : Expr). s.Throw y (e.Int (pos 0))) r.is)
-        (subst (λ (k : ℕ). Fits g.expression r.syntax k) z.0.depth_is r.fits, tt) in
+    (subst (λ (k : ℕ). Fits g.expression r.syntax k) z.0.depth_is r.fits, tt) in
     alive_more (λ more. stack_words fs file z.1 (body_words (with_stmt draft stmt) body_ more)) (finished (f.If draft ∷ fs) pl d z (Value v) r)
     (λ more. w.Sign p.CloseParen ∷ w.Name (codes "throw") 0 ∷ w.Number (pos 0) ∷ w.Sign p.Semicolon ∷ more) (λ more. refl)
     (ih file z.1 (with_stmt draft stmt) body_)
@@ -244,8 +234,8 @@ body_alive : (draft : Draft) (r : Body draft) → Alive (λ more. body_words dra
 body_alive draft r =
     let components = component_of draft (node_of (Value (e.Int (pos 0)))) in
     let end : At (position.Outside (o.BodyEnd components)) [] = record {
-        here = record { draft = draft; body = r; place = 0; result = Value (e.Int (pos 0)); read = zero_read 1; is = refl };
-        below = tt
+      here = record { draft = draft; body = r; place = 0; result = Value (e.Int (pos 0)); read = zero_read 1; is = refl };
+      below = tt;
     } in
     alive_more (at_words (position.Outside (o.BodyEnd components)) [] end) (λ more. body_words draft r more)
     (λ more. w.Name (codes "return") 0 ∷ w.Number (pos 0) ∷ w.Sign p.Semicolon ∷ more) (λ more. refl) (alive_body_end [] components end)
@@ -270,15 +260,15 @@ alive_below (f.Yes c ∷ fs) (part pl d) z = λ x r.
     alive_more (finished fs c.place c.depth z.1 (choose_part c.test x (Value (e.Int (pos 0)))) u.read) (finished (f.Yes c ∷ fs) pl d z x r)
     (λ more. w.Sign p.Colon ∷ w.Number (pos 0) ∷ more)
     (λ more. ap (stack_words fs (part c.place c.depth) z.1) (u.words_are more
-        ∙ ap (λ (ws : List Word). spell g.disjunction z.0.test.read.syntax (w.Sign p.Question ∷ ws)) (part_at-words x pl c.place d (c.depth + 1) z.0.place_is z.0.depth_is r (w.Sign p.Colon ∷ w.Number (pos 0) ∷ more))))
+    ∙ ap (λ (ws : List Word). spell g.disjunction z.0.test.read.syntax (w.Sign p.Question ∷ ws)) (part_at-words x pl c.place d (c.depth + 1) z.0.place_is z.0.depth_is r (w.Sign p.Colon ∷ w.Number (pos 0) ∷ more))))
     (alive_below fs (part c.place c.depth) z.1 (choose_part c.test x (Value (e.Int (pos 0)))) u.read)
 alive_below (f.No c one ∷ fs) (part pl d) z = λ x r.
     let there = part_at x pl c.place d (c.depth + 1) z.0.place_is z.0.depth_is r in
     let u = choose_closed c one x z.0.test z.0.one_read there in
     alive_more (finished fs c.place c.depth z.1 (choose_part c.test one x) u.read) (finished (f.No c one ∷ fs) pl d z x r) (λ more. more)
     (λ more. ap (stack_words fs (part c.place c.depth) z.1) (u.words_are more
-        ∙ ap (λ (ws : List Word). spell g.disjunction z.0.test.read.syntax (w.Sign p.Question ∷ part_words one c.place (c.depth + 1) z.0.one_read (w.Sign p.Colon ∷ ws)))
-            (part_at-words x pl c.place d (c.depth + 1) z.0.place_is z.0.depth_is r more)))
+    ∙ ap (λ (ws : List Word). spell g.disjunction z.0.test.read.syntax (w.Sign p.Question ∷ part_words one c.place (c.depth + 1) z.0.one_read (w.Sign p.Colon ∷ ws)))
+    (part_at-words x pl c.place d (c.depth + 1) z.0.place_is z.0.depth_is r more)))
     (alive_below fs (part c.place c.depth) z.1 (choose_part c.test one x) u.read)
 alive_below (f.Item q items ∷ fs) (part pl d) z = λ x r.
     let words = finished (f.Item q items ∷ fs) pl d z x r in
@@ -302,18 +292,18 @@ alive_below (f.Child x_ ∷ fs) (part pl d) z = λ x r.
     alive_by words (w.Sign p.CloseBrace) (steps.in_element (t.Children next) fs) k (alive_children fs (alive_below fs) next k.at)
 alive_below (f.Operand q ∷ fs) (elem d) z = λ node r.
     alive_node fs (alive_below fs) q node (record {
-        here = record {
-            before = z.0.before;
-            allows = z.0.allows;
-            read = record { syntax = g.element_node r.syntax; is = ap Other r.is; fits = subst (λ (k : ℕ). Fits g.element r.syntax k) z.0.depth_is r.fits }
-        };
-        below = z.1
+      here = record {
+        before = z.0.before;
+        allows = z.0.allows;
+        read = record { syntax = g.element_node r.syntax; is = ap Other r.is; fits = subst (λ (k : ℕ). Fits g.element r.syntax k) z.0.depth_is r.fits };
+      };
+      below = z.1;
     })
 alive_below (f.Kid x ∷ fs) (elem d) z = λ node r.
     alive_children fs (alive_below fs) (steps.with_kid x node) (record {
-        here = kid_read x z.0.opened node (g.element_child r.syntax) (ap (λ (y : Node). y ∷ []) r.is)
-            (subst (λ (k : ℕ). Fits g.element r.syntax k) z.0.depth_is r.fits) z.0.holds;
-        below = z.1
+      here = kid_read x z.0.opened node (g.element_child r.syntax) (ap (λ (y : Node). y ∷ []) r.is)
+          (subst (λ (k : ℕ). Fits g.element r.syntax k) z.0.depth_is r.fits) z.0.holds;
+      below = z.1;
     })
 alive_below (_ ∷ fs) hole z = absurd z
 

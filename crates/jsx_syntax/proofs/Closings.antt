@@ -1,52 +1,29 @@
 -- Whole parts from parts: an operand ends, with the signs and operands before it.
-use Rattle.std.proofs.Common.{◌≡◌, ℕ, zero, suc, ◌+◌, Bool, true, false, List, [], ◌∷◌, ◌++◌, codes, Option, Some, None, Ok, Err, ◌⊎◌, inl, inr, refl, sym, ap, subst, ◌∙◌, add-zero, arith, ◌&&◌, ◌==◌, eqb-true, is_none}
+use Rattle.std.proofs.Common.{◌≡◌, ℕ, zero, suc, ◌+◌, Bool, true, false, List, [], ◌∷◌, ◌++◌, Option, Some, None, inl, inr, refl, sym, ap, subst, ◌∙◌, add-zero, arith, ◌&&◌, ◌==◌, eqb-true, is_none}
 use Rattle.jsx_lex.specs.declared.word.Word.{Word}
 use Rattle.jsx_lex.specs.declared.word.Word.TheVariants as w
-use Rattle.jsx_lex.specs.declared.word.Punctuator.{Punctuator}
 use Rattle.jsx_lex.specs.declared.word.Punctuator.TheVariants as p
 use Rattle.jsx_syntax.specs.declared.name.Name.{Name}
-use Rattle.jsx_syntax.specs.declared.name.Entry.{Entry}
 use Rattle.jsx_syntax.specs.declared.expr.Expr.{Expr}
 use Rattle.jsx_syntax.specs.declared.node.Node.{Node}
 use Rattle.jsx_syntax.specs.declared.part.Part.{Part}
 use Rattle.jsx_syntax.specs.declared.part.Part.TheVariants.{Value, Other}
 use Rattle.jsx_syntax.specs.declared.part.Dotted.{Dotted}
-use Rattle.jsx_syntax.specs.declared.file.Component.{Component}
-use Rattle.jsx_syntax.specs.declared.file.Stmt.TheVariants as s
 use Rattle.jsx_syntax.specs.declared.state.Left.{Left}
-use Rattle.jsx_syntax.specs.declared.state.Signature.{Signature}
-use Rattle.jsx_syntax.specs.declared.state.Draft.{Draft}
 use Rattle.jsx_syntax.specs.declared.state.Pending.{Pending}
 use Rattle.jsx_syntax.specs.declared.state.Conditional.{Conditional}
-use Rattle.jsx_syntax.specs.declared.state.Mapping.{Mapping}
 use Rattle.jsx_syntax.specs.declared.state.Tag.{Tag}
-use Rattle.jsx_syntax.specs.declared.state.Opened.{Opened}
-use Rattle.jsx_syntax.specs.declared.state.Frame.{Frame}
-use Rattle.jsx_syntax.specs.declared.state.Frame.TheVariants as f
-use Rattle.jsx_syntax.specs.declared.state.Position.{Position}
-use Rattle.jsx_syntax.specs.declared.state.Position.TheVariants as position
-use Rattle.jsx_syntax.specs.declared.state.Outside.{Outside}
-use Rattle.jsx_syntax.specs.declared.state.Outside.TheVariants as o
-use Rattle.jsx_syntax.specs.declared.state.Within.{Within}
-use Rattle.jsx_syntax.specs.declared.state.Within.TheVariants as b
-use Rattle.jsx_syntax.specs.declared.state.Inside.{Inside}
-use Rattle.jsx_syntax.specs.declared.state.Inside.TheVariants as i
-use Rattle.jsx_syntax.specs.declared.state.InMap.{InMap}
-use Rattle.jsx_syntax.specs.declared.state.InMap.TheVariants as m
-use Rattle.jsx_syntax.specs.declared.state.InElement.{InElement}
-use Rattle.jsx_syntax.specs.declared.state.InElement.TheVariants as t
 use Rattle.jsx_syntax.specs.Trees.{or_of, sum_of, member_of, node_of, is_suspense}
 use Rattle.jsx_syntax.specs.Words.{name_word}
 use Rattle.jsx_syntax.specs.Grammar.{Sort, Syntax, Meaning, spell, tree, Fits, HasRoom, IsName, AreNames, equal_sign}
 use Rattle.jsx_syntax.specs.Grammar as g
-use Rattle.jsx_syntax.specs.Steps.{allows_node, nesting, holds_children, fallback_place, dotted, component_of, with_stmt, same_name}
-
+use Rattle.jsx_syntax.specs.Steps.{allows_node, nesting, fallback_place}
 use Rattle.jsx_syntax.specs.declared.expr.Expr.TheVariants as e
 use Rattle.jsx_syntax.specs.declared.node.Node.TheVariants as n
 use Rattle.jsx_syntax.specs.Trees.{and_of, choose_part, or_part, and_part, entry}
 use Rattle.jsx_syntax.specs.Steps.{nots_of, equal_of, sums_of, ands_of, ors_of, value_of, node_part, is_empty}
 use Rattle.jsx_syntax.specs.Words.{is_fallback}
-use Rattle.jsx_syntax.proofs.Zipper.{Read, Sums, Ands, Ors, sums_words, ands_words, ors_words, LeftSide, Lefts, left_words, Nots, nots_words, Before, before_words, PartRead, part_words, Test, AtValue, AtNode, Listed, listed_words}
+use Rattle.jsx_syntax.proofs.Zipper.{Read, Sums, Ands, Ors, sums_words, ands_words, ors_words, Lefts, left_words, Nots, nots_words, Before, before_words, PartRead, part_words, Test, AtValue, AtNode, Listed, listed_words}
 
 pub ap2 : {A B C : Type 0} (f : A → B → C) {a a' : A} {b b' : B} → a ≡ a' → b ≡ b' → f a b ≡ f a' b'
 ap2 f {a = a} {a' = a'} {b = b} {b' = b'} x y = ap (λ c. f c b) x ∙ ap (λ c. f a' c) y
@@ -82,63 +59,63 @@ Nots-add (suc k) d nots room =
 pub close_unary : (k d : ℕ) (x : Dotted) → Nots k d → (r : Read g.member x (d + k))
     → ReadAs g.unary (nots_of k (member_of x)) d (λ more. nots_words k (spell g.member r.syntax more))
 close_unary zero d x nots r = record {
-    read = record { syntax = g.no_bang r.syntax; is = ap member_of r.is; fits = subst (λ (j : ℕ). Fits g.member r.syntax j) (add-zero d) r.fits };
-    words_are = λ more. refl
+  read = record { syntax = g.no_bang r.syntax; is = ap member_of r.is; fits = subst (λ (j : ℕ). Fits g.member r.syntax j) (add-zero d) r.fits };
+  words_are = λ more. refl;
 }
 close_unary (suc k) d x nots r =
     let deeper : d + suc k ≡ d + 1 + k = omega arith in
     let u = close_unary k (d + 1) x nots.1 (at_depth g.member x (d + suc k) (d + 1 + k) deeper r) in
     record {
-        read = record { syntax = g.bang u.read.syntax; is = ap e.Not u.read.is; fits = (nots.0, u.read.fits) };
-        words_are = λ more. ap (λ (ws : List Word). w.Sign p.Not ∷ ws) (u.words_are more)
+      read = record { syntax = g.bang u.read.syntax; is = ap e.Not u.read.is; fits = (nots.0, u.read.fits) };
+      words_are = λ more. ap (λ (ws : List Word). w.Sign p.Not ∷ ws) (u.words_are more);
     }
 
 pub close_sum : (xs : List Expr) (d : ℕ) (c : Sums xs d) (x : Expr) (words : List Word → List Word)
     → ReadAs g.unary x d words → ReadAs g.sum (xs ++ x ∷ []) d (λ more. sums_words xs d c (words more))
 close_sum xs d (inl none) x words u = record {
-    read = record { syntax = g.no_plus u.read.syntax; is = ap2 (λ (ys : List Expr) (y : Expr). ys ++ y ∷ []) (sym none) u.read.is; fits = u.read.fits };
-    words_are = u.words_are
+  read = record { syntax = g.no_plus u.read.syntax; is = ap2 (λ (ys : List Expr) (y : Expr). ys ++ y ∷ []) (sym none) u.read.is; fits = u.read.fits };
+  words_are = u.words_are;
 }
 close_sum xs d (inr r) x words u = record {
-    read = record { syntax = g.plus r.syntax u.read.syntax; is = ap2 (λ (ys : List Expr) (y : Expr). ys ++ y ∷ []) r.is u.read.is; fits = (r.fits, u.read.fits) };
-    words_are = λ more. ap (λ (ws : List Word). spell g.sum r.syntax (w.Sign p.Plus ∷ ws)) (u.words_are more)
+  read = record { syntax = g.plus r.syntax u.read.syntax; is = ap2 (λ (ys : List Expr) (y : Expr). ys ++ y ∷ []) r.is u.read.is; fits = (r.fits, u.read.fits) };
+  words_are = λ more. ap (λ (ws : List Word). spell g.sum r.syntax (w.Sign p.Plus ∷ ws)) (u.words_are more);
 }
 
 pub close_equality : (left : Option Left) (d : ℕ) (l : Lefts left d) (xs : List Expr) (words : List Word → List Word)
     → ReadAs g.sum xs d words → ReadAs g.equality (equal_of left (sum_of xs)) d (λ more. left_words left d l (words more))
 close_equality None d l xs words u = record {
-    read = record { syntax = g.no_equal u.read.syntax; is = ap sum_of u.read.is; fits = u.read.fits };
-    words_are = u.words_are
+  read = record { syntax = g.no_equal u.read.syntax; is = ap sum_of u.read.is; fits = u.read.fits };
+  words_are = u.words_are;
 }
 close_equality (Some left) d l xs words u = record {
-    read = record {
-        syntax = g.equal left.negated l.read.syntax u.read.syntax;
-        is = ap2 (λ (a b_ : Expr). e.Equal a b_ left.negated) (ap sum_of l.read.is ∙ l.is) (ap sum_of u.read.is);
-        fits = (l.read.fits, u.read.fits)
-    };
-    words_are = λ more. ap (λ (ws : List Word). spell g.sum l.read.syntax (w.Sign (equal_sign left.negated) ∷ ws)) (u.words_are more)
+  read = record {
+    syntax = g.equal left.negated l.read.syntax u.read.syntax;
+    is = ap2 (λ (a b_ : Expr). e.Equal a b_ left.negated) (ap sum_of l.read.is ∙ l.is) (ap sum_of u.read.is);
+    fits = (l.read.fits, u.read.fits);
+  };
+  words_are = λ more. ap (λ (ws : List Word). spell g.sum l.read.syntax (w.Sign (equal_sign left.negated) ∷ ws)) (u.words_are more);
 }
 
 pub close_and : (xs : List Expr) (d : ℕ) (c : Ands xs d) (x : Expr) (words : List Word → List Word)
     → ReadAs g.equality x d words → ReadAs g.conjunction (xs ++ x ∷ []) d (λ more. ands_words xs d c (words more))
 close_and xs d (inl none) x words u = record {
-    read = record { syntax = g.no_and u.read.syntax; is = ap2 (λ (ys : List Expr) (y : Expr). ys ++ y ∷ []) (sym none) u.read.is; fits = u.read.fits };
-    words_are = u.words_are
+  read = record { syntax = g.no_and u.read.syntax; is = ap2 (λ (ys : List Expr) (y : Expr). ys ++ y ∷ []) (sym none) u.read.is; fits = u.read.fits };
+  words_are = u.words_are;
 }
 close_and xs d (inr r) x words u = record {
-    read = record { syntax = g.and r.syntax u.read.syntax; is = ap2 (λ (ys : List Expr) (y : Expr). ys ++ y ∷ []) r.is u.read.is; fits = (r.fits, u.read.fits) };
-    words_are = λ more. ap (λ (ws : List Word). spell g.conjunction r.syntax (w.Sign p.AndAnd ∷ ws)) (u.words_are more)
+  read = record { syntax = g.and r.syntax u.read.syntax; is = ap2 (λ (ys : List Expr) (y : Expr). ys ++ y ∷ []) r.is u.read.is; fits = (r.fits, u.read.fits) };
+  words_are = λ more. ap (λ (ws : List Word). spell g.conjunction r.syntax (w.Sign p.AndAnd ∷ ws)) (u.words_are more);
 }
 
 pub close_or : (xs : List Expr) (d : ℕ) (c : Ors xs d) (ys : List Expr) (words : List Word → List Word)
     → ReadAs g.conjunction ys d words → ReadAs g.disjunction (xs ++ and_of ys ∷ []) d (λ more. ors_words xs d c (words more))
 close_or xs d (inl none) ys words u = record {
-    read = record { syntax = g.no_or u.read.syntax; is = ap2 (λ (zs : List Expr) (y : Expr). zs ++ y ∷ []) (sym none) (ap and_of u.read.is); fits = u.read.fits };
-    words_are = u.words_are
+  read = record { syntax = g.no_or u.read.syntax; is = ap2 (λ (zs : List Expr) (y : Expr). zs ++ y ∷ []) (sym none) (ap and_of u.read.is); fits = u.read.fits };
+  words_are = u.words_are;
 }
 close_or xs d (inr r) ys words u = record {
-    read = record { syntax = g.or r.syntax u.read.syntax; is = ap2 (λ (zs : List Expr) (y : Expr). zs ++ y ∷ []) r.is (ap and_of u.read.is); fits = (r.fits, u.read.fits) };
-    words_are = λ more. ap (λ (ws : List Word). spell g.disjunction r.syntax (w.Sign p.OrOr ∷ ws)) (u.words_are more)
+  read = record { syntax = g.or r.syntax u.read.syntax; is = ap2 (λ (zs : List Expr) (y : Expr). zs ++ y ∷ []) r.is (ap and_of u.read.is); fits = (r.fits, u.read.fits) };
+  words_are = λ more. ap (λ (ws : List Word). spell g.disjunction r.syntax (w.Sign p.OrOr ∷ ws)) (u.words_are more);
 }
 
 -- The parts of an expression whose last operand was read.
@@ -168,8 +145,8 @@ pub value_closed : (q : Pending) (d : Dotted) (z : AtValue q d)
 value_closed q d z =
     let u = ors_closed q d z in
     record {
-        read = record { syntax = g.no_choice u.read.syntax; is = ap or_of u.read.is; fits = u.read.fits };
-        words_are = u.words_are
+      read = record { syntax = g.no_choice u.read.syntax; is = ap or_of u.read.is; fits = u.read.fits };
+      words_are = u.words_are;
     }
 
 -- Where an element, an array or a map may stand, no sign of a value's levels came before.
@@ -231,8 +208,8 @@ before_words-allows q r more h =
 
 pub node_read : (x : Part) (d : ℕ) (place : Bool) (r : PartRead x place d) → ReadAs g.node x d (part_words x place d r)
 node_read (Value x) d place r = record {
-    read = record { syntax = g.value r.syntax; is = ap Value r.is; fits = r.fits };
-    words_are = λ more. refl
+  read = record { syntax = g.value r.syntax; is = ap Value r.is; fits = r.fits };
+  words_are = λ more. refl;
 }
 node_read (Other x) d place r = record { read = r.1; words_are = λ more. refl }
 
@@ -247,23 +224,23 @@ or_part-nil (Other x) = refl
 and_node : (xs : List Expr) (d : ℕ) (c : Ands xs d) (x : Part) (words : List Word → List Word)
     → ReadAs g.node_primary x d words → ReadAs g.node_conjunction (and_part xs x) d (λ more. ands_words xs d c (words more))
 and_node xs d (inl none) x words u = record {
-    read = record { syntax = g.and_alone u.read.syntax; is = u.read.is ∙ sym (and_part-nil x) ∙ ap (λ (ys : List Expr). and_part ys x) (sym none); fits = u.read.fits };
-    words_are = u.words_are
+  read = record { syntax = g.and_alone u.read.syntax; is = u.read.is ∙ sym (and_part-nil x) ∙ ap (λ (ys : List Expr). and_part ys x) (sym none); fits = u.read.fits };
+  words_are = u.words_are;
 }
 and_node xs d (inr r) x words u = record {
-    read = record { syntax = g.and_last r.syntax u.read.syntax; is = ap2 and_part r.is u.read.is; fits = (r.fits, u.read.fits) };
-    words_are = λ more. ap (λ (ws : List Word). spell g.conjunction r.syntax (w.Sign p.AndAnd ∷ ws)) (u.words_are more)
+  read = record { syntax = g.and_last r.syntax u.read.syntax; is = ap2 and_part r.is u.read.is; fits = (r.fits, u.read.fits) };
+  words_are = λ more. ap (λ (ws : List Word). spell g.conjunction r.syntax (w.Sign p.AndAnd ∷ ws)) (u.words_are more);
 }
 
 or_node : (xs : List Expr) (d : ℕ) (c : Ors xs d) (x : Part) (words : List Word → List Word)
     → ReadAs g.node_conjunction x d words → ReadAs g.node_disjunction (or_part xs x) d (λ more. ors_words xs d c (words more))
 or_node xs d (inl none) x words u = record {
-    read = record { syntax = g.or_alone u.read.syntax; is = u.read.is ∙ sym (or_part-nil x) ∙ ap (λ (ys : List Expr). or_part ys x) (sym none); fits = u.read.fits };
-    words_are = u.words_are
+  read = record { syntax = g.or_alone u.read.syntax; is = u.read.is ∙ sym (or_part-nil x) ∙ ap (λ (ys : List Expr). or_part ys x) (sym none); fits = u.read.fits };
+  words_are = u.words_are;
 }
 or_node xs d (inr r) x words u = record {
-    read = record { syntax = g.or_last r.syntax u.read.syntax; is = ap2 or_part r.is u.read.is; fits = (r.fits, u.read.fits) };
-    words_are = λ more. ap (λ (ws : List Word). spell g.disjunction r.syntax (w.Sign p.OrOr ∷ ws)) (u.words_are more)
+  read = record { syntax = g.or_last r.syntax u.read.syntax; is = ap2 or_part r.is u.read.is; fits = (r.fits, u.read.fits) };
+  words_are = λ more. ap (λ (ws : List Word). spell g.disjunction r.syntax (w.Sign p.OrOr ∷ ws)) (u.words_are more);
 }
 
 abbrev IsOther : Part → Type 0
@@ -290,74 +267,84 @@ node_closed q node z =
     let second = and_node q.ands q.depth z.before.ands (Other node) (λ more. spell g.node_primary z.read.syntax more) first in
     let third = or_node q.ors q.depth z.before.ors (and_part q.ands (Other node)) (λ more. ands_words q.ands q.depth z.before.ands (spell g.node_primary z.read.syntax more)) second in
     other_part (node_part q (Other node)) q.place q.depth (λ more. before_words q z.before (spell g.node_primary z.read.syntax more)) (allows_is q z.allows).place (other_or q.ors (and_part q.ands (Other node)) (other_and q.ands node)) (record {
-        read = record { syntax = g.chain third.read.syntax; is = third.read.is; fits = third.read.fits };
-        words_are = λ more. third.words_are more ∙ sym (before_words-allows q z.before (spell g.node_primary z.read.syntax more) z.allows)
+      read = record { syntax = g.chain third.read.syntax; is = third.read.is; fits = third.read.fits };
+      words_are = λ more. third.words_are more ∙ sym (before_words-allows q z.before (spell g.node_primary z.read.syntax more) z.allows);
     })
 
 pub choose_closed : (c : Conditional) (one other : Part) (test : Test c) (r : PartRead one c.place (c.depth + 1)) (l : PartRead other c.place (c.depth + 1))
     → PartAs (choose_part c.test one other) c.place c.depth (λ more. spell g.disjunction test.read.syntax (w.Sign p.Question
-        ∷ part_words one c.place (c.depth + 1) r (w.Sign p.Colon ∷ part_words other c.place (c.depth + 1) l more)))
+    ∷ part_words one c.place (c.depth + 1) r (w.Sign p.Colon ∷ part_words other c.place (c.depth + 1) l more)))
 choose_closed c (Value one) (Value other) test r l = record {
-    read = record {
-        syntax = g.choice test.read.syntax r.syntax l.syntax;
-        is = ap3 e.Choose (ap or_of test.read.is ∙ test.is) r.is l.is;
-        fits = (test.read.fits, test.room, r.fits, l.fits)
-    };
-    words_are = λ more. refl
+  read = record {
+    syntax = g.choice test.read.syntax r.syntax l.syntax;
+    is = ap3 e.Choose (ap or_of test.read.is ∙ test.is) r.is l.is;
+    fits = (test.read.fits, test.room, r.fits, l.fits);
+  };
+  words_are = λ more. refl;
 }
 choose_closed c (Value one) (Other other) test r l = record {
-    read = (l.0, record {
-        syntax = g.node_choice test.read.syntax (g.value r.syntax) l.1.syntax;
-        is = ap3 choose_part (ap or_of test.read.is ∙ test.is) (ap Value r.is) l.1.is;
-        fits = (test.read.fits, test.room, r.fits, l.1.fits)
-    });
-    words_are = λ more. refl
+  read = (
+    l.0,
+    record {
+      syntax = g.node_choice test.read.syntax (g.value r.syntax) l.1.syntax;
+      is = ap3 choose_part (ap or_of test.read.is ∙ test.is) (ap Value r.is) l.1.is;
+      fits = (test.read.fits, test.room, r.fits, l.1.fits);
+    },
+  );
+  words_are = λ more. refl;
 }
 choose_closed c (Other one) (Value other) test r l = record {
-    read = (r.0, record {
-        syntax = g.node_choice test.read.syntax r.1.syntax (g.value l.syntax);
-        is = ap3 choose_part (ap or_of test.read.is ∙ test.is) r.1.is (ap Value l.is);
-        fits = (test.read.fits, test.room, r.1.fits, l.fits)
-    });
-    words_are = λ more. refl
+  read = (
+    r.0,
+    record {
+      syntax = g.node_choice test.read.syntax r.1.syntax (g.value l.syntax);
+      is = ap3 choose_part (ap or_of test.read.is ∙ test.is) r.1.is (ap Value l.is);
+      fits = (test.read.fits, test.room, r.1.fits, l.fits);
+    },
+  );
+  words_are = λ more. refl;
 }
 choose_closed c (Other one) (Other other) test r l = record {
-    read = (r.0, record {
-        syntax = g.node_choice test.read.syntax r.1.syntax l.1.syntax;
-        is = ap3 choose_part (ap or_of test.read.is ∙ test.is) r.1.is l.1.is;
-        fits = (test.read.fits, test.room, r.1.fits, l.1.fits)
-    });
-    words_are = λ more. refl
+  read = (
+    r.0,
+    record {
+      syntax = g.node_choice test.read.syntax r.1.syntax l.1.syntax;
+      is = ap3 choose_part (ap or_of test.read.is ∙ test.is) r.1.is l.1.is;
+      fits = (test.read.fits, test.room, r.1.fits, l.1.fits);
+    },
+  );
+  words_are = λ more. refl;
 }
 
 pub listed_closed : (items : List Node) (d : ℕ) (c : Listed items d) (x : Part) (place : Bool) (r : PartRead x place d)
     → (list : Read g.node_list (items ++ node_of x ∷ []) d) × ((more : List Word) → w.Sign p.OpenBracket ∷ spell g.node_list list.syntax more ≡ listed_words items d c (part_words x place d r more))
 listed_closed items d (inl none) x place r =
-    let u = node_read x d place r in
-    (record { syntax = g.first_node u.read.syntax; is = ap2 (λ (xs : List Node) (y : Part). xs ++ node_of y ∷ []) (sym none) u.read.is; fits = u.read.fits },
-    λ more. ap (λ (ws : List Word). w.Sign p.OpenBracket ∷ ws) (u.words_are more))
+    let u = node_read x d place r in (
+      record { syntax = g.first_node u.read.syntax; is = ap2 (λ (xs : List Node) (y : Part). xs ++ node_of y ∷ []) (sym none) u.read.is; fits = u.read.fits },
+      λ more. ap (λ (ws : List Word). w.Sign p.OpenBracket ∷ ws) (u.words_are more),
+    )
 listed_closed items d (inr l) x place r =
-    let u = node_read x d place r in
-    (record { syntax = g.next_node l.syntax u.read.syntax; is = ap2 (λ (xs : List Node) (y : Part). xs ++ node_of y ∷ []) l.is u.read.is; fits = (l.fits, u.read.fits) },
-    λ more. ap (λ (ws : List Word). w.Sign p.OpenBracket ∷ spell g.node_list l.syntax (w.Sign p.Comma ∷ ws)) (u.words_are more))
+    let u = node_read x d place r in (
+      record { syntax = g.next_node l.syntax u.read.syntax; is = ap2 (λ (xs : List Node) (y : Part). xs ++ node_of y ∷ []) l.is u.read.is; fits = (l.fits, u.read.fits) },
+      λ more. ap (λ (ws : List Word). w.Sign p.OpenBracket ∷ spell g.node_list l.syntax (w.Sign p.Comma ∷ ws)) (u.words_are more),
+    )
 
 fallback_read : (b_ : Bool) (name : Name) (x : Part) (d : ℕ) (place : Bool) (r : PartRead x place (d + 1)) → b_ ≡ true → is_fallback name.text ≡ true → HasRoom d
     → ReadAs (g.attribute b_) (entry name (node_of x)) d (λ more. name_word name ∷ w.Sign p.Assign ∷ w.Sign p.OpenBrace ∷ part_words x place (d + 1) r (w.Sign p.CloseBrace ∷ more))
 fallback_read true name x d place r is named room =
     let u = node_read x (d + 1) place r in
     record {
-        read = record { syntax = g.fallback name u.read.syntax; is = ap (λ (y : Part). entry name (node_of y)) u.read.is; fits = (named, room, u.read.fits) };
-        words_are = λ more. ap (λ (ws : List Word). name_word name ∷ w.Sign p.Assign ∷ w.Sign p.OpenBrace ∷ ws) (u.words_are (w.Sign p.CloseBrace ∷ more))
+      read = record { syntax = g.fallback name u.read.syntax; is = ap (λ (y : Part). entry name (node_of y)) u.read.is; fits = (named, room, u.read.fits) };
+      words_are = λ more. ap (λ (ws : List Word). name_word name ∷ w.Sign p.Assign ∷ w.Sign p.OpenBrace ∷ ws) (u.words_are (w.Sign p.CloseBrace ∷ more));
     }
 fallback_read false name x d place r is named room = absurd (cc)
 
 pub braced_read : (tag : Tag) (name : Name) (x : Part) (d : ℕ) (place : Bool) (r : PartRead x place (d + 1)) → place ≡ fallback_place tag name → HasRoom d
     → ReadAs (g.attribute (is_suspense tag.name.text)) (entry name (node_of x)) d (λ more. name_word name ∷ w.Sign p.Assign ∷ w.Sign p.OpenBrace ∷ part_words x place (d + 1) r (w.Sign p.CloseBrace ∷ more))
 braced_read tag name (Value x) d place r is room = record {
-    read = record { syntax = g.braced name r.syntax; is = ap (λ (y : Expr). entry name (n.Value y)) r.is; fits = (room, r.fits) };
-    words_are = λ more. refl
+  read = record { syntax = g.braced name r.syntax; is = ap (λ (y : Expr). entry name (n.Value y)) r.is; fits = (room, r.fits) };
+  words_are = λ more. refl;
 }
 braced_read tag name (Other x) d place r is room =
     let parts = both (is_suspense tag.name.text) (is_fallback name.text) (sym is ∙ r.0) in
     fallback_read (is_suspense tag.name.text) name (Other x) d place r parts.0 parts.1 room
-

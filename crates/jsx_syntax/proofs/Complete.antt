@@ -1,16 +1,14 @@
 -- The steps of the parser read what the grammar spells: `complete`, one recursion over all productions.
-use Rattle.std.proofs.Common.{◌≡◌, ℕ, zero, suc, ◌+◌, Bool, true, false, ◌&&◌, ◌||◌, nat_lt, if◌then◌else◌, List, [], ◌∷◌, ◌++◌, codes, Option, Some, None, Ok, Err, refl, sym, ap, subst, ◌∙◌, append_assoc, append-nil, add-zero, add-one, add_assoc, arith}
+use Rattle.std.proofs.Common.{◌≡◌, ℕ, zero, suc, ◌+◌, Bool, true, false, ◌&&◌, ◌||◌, if◌then◌else◌, List, [], ◌∷◌, ◌++◌, codes, Option, Some, None, Ok, Err, refl, sym, ap, ◌∙◌, append-nil, add-zero, add-one, arith}
 use Rattle.std.specs.Str.{bytes_eq}
 use Rattle.jsx_lex.specs.declared.word.Word.{Word}
 use Rattle.jsx_lex.specs.declared.word.Word.TheVariants as w
-use Rattle.jsx_lex.specs.declared.word.Punctuator.{Punctuator}
 use Rattle.jsx_lex.specs.declared.word.Punctuator.TheVariants as p
 use Rattle.jsx_syntax.specs.declared.name.Name.{Name}
 use Rattle.jsx_syntax.specs.declared.name.Entry.{Entry}
 use Rattle.jsx_syntax.specs.declared.expr.Expr.{Expr}
 use Rattle.jsx_syntax.specs.declared.expr.Expr.TheVariants as e
 use Rattle.jsx_syntax.specs.declared.node.Node.{Node}
-use Rattle.jsx_syntax.specs.declared.node.Node.TheVariants as n
 use Rattle.jsx_syntax.specs.declared.part.Part.{Part}
 use Rattle.jsx_syntax.specs.declared.part.Part.TheVariants.{Value, Other}
 use Rattle.jsx_syntax.specs.declared.part.Dotted.{Dotted}
@@ -28,7 +26,6 @@ use Rattle.jsx_syntax.specs.declared.state.InMap.TheVariants as m
 use Rattle.jsx_syntax.specs.declared.fault.Wanted.TheVariants as wanted
 use Rattle.jsx_syntax.specs.declared.state.Outside.TheVariants as o
 use Rattle.jsx_syntax.specs.declared.state.Within.TheVariants as b
-
 use Rattle.jsx_syntax.specs.declared.state.Pending.{Pending}
 use Rattle.jsx_syntax.specs.declared.state.Opened.{Opened}
 use Rattle.jsx_syntax.specs.declared.state.Tag.{Tag}
@@ -37,8 +34,8 @@ use Rattle.jsx_syntax.specs.declared.state.Frame.TheVariants as f
 use Rattle.jsx_syntax.specs.declared.state.Inside.TheVariants as i
 use Rattle.jsx_syntax.specs.declared.state.Inside.{Inside}
 use Rattle.jsx_syntax.specs.declared.state.InElement.TheVariants as t
-use Rattle.jsx_syntax.specs.Trees.{members_of, member_of, sum_of, and_of, or_of, node_of, choose_part, and_part, or_part, is_suspense, entry, element_of}
-use Rattle.jsx_syntax.specs.Words.{name_word, is_reserved, reserved_words, nesting_limit, takes_children, is_fallback}
+use Rattle.jsx_syntax.specs.Trees.{member_of, sum_of, and_of, or_of, and_part, or_part, is_suspense}
+use Rattle.jsx_syntax.specs.Words.{name_word, is_reserved, reserved_words}
 use Rattle.jsx_syntax.specs.WordTests.{is_sign, is_word, has_room, code_name}
 use Rattle.jsx_syntax.specs.Grammar.{Sort, Syntax, spell, tree, Fits, HasRoom, equal_sign}
 use Rattle.jsx_syntax.specs.Grammar as g
@@ -167,7 +164,7 @@ abbrev inner_words : Syntax g.element → List Word → List Word
 inner_words (g.closed x c) more = name_word x ∷ spell (g.attributes (is_suspense x.text)) c (w.Sign p.SlashGreater ∷ more)
 inner_words (g.paired x c d place) more =
     name_word x ∷ spell (g.attributes (is_suspense x.text)) c (w.Sign p.Greater
-        ∷ spell g.children d (w.Sign p.LessSlash ∷ w.Name x.text place ∷ w.Sign p.Greater ∷ more))
+    ∷ spell g.children d (w.Sign p.LessSlash ∷ w.Name x.text place ∷ w.Sign p.Greater ∷ more))
 inner_words (g.fragment c) more =
     w.Sign p.Greater ∷ spell g.children c (w.Sign p.LessSlash ∷ w.Sign p.Greater ∷ more)
 
@@ -195,62 +192,62 @@ Reads g.disjunction c = (pl : Bool) (d : ℕ) (stack : List Frame) (more : List 
 Reads g.expression c = (pl : Bool) (d : ℕ) (stack : List Frame) (word : Word) (more : List Word)
     → Fits g.expression c d → Closes word
     → at (i.Operand (fresh pl d)) stack (spell g.expression c (word ∷ more))
-        ≡ run (finish (Value (tree g.expression c)) stack word) more
+    ≡ run (finish (Value (tree g.expression c)) stack word) more
 Reads g.node_primary c = (d : ℕ) (ors ands : List Expr) (stack : List Frame) (more : List Word) → Fits g.node_primary c d
     → at (i.Operand (pend true d ors ands None [] 0)) stack (spell g.node_primary c more)
-        ≡ run (Ok (after_part (pend true d ors ands None [] 0) (tree g.node_primary c) stack)) more
+    ≡ run (Ok (after_part (pend true d ors ands None [] 0) (tree g.node_primary c) stack)) more
 Reads g.node_conjunction c = (d : ℕ) (ors : List Expr) (stack : List Frame) (word : Word) (more : List Word)
     → Fits g.node_conjunction c d → Closes word
     → at (i.Operand (pend true d ors [] None [] 0)) stack (spell g.node_conjunction c (word ∷ more))
-        ≡ run (finish (or_part ors (tree g.node_conjunction c)) stack word) more
+    ≡ run (finish (or_part ors (tree g.node_conjunction c)) stack word) more
 Reads g.node_disjunction c = (d : ℕ) (stack : List Frame) (word : Word) (more : List Word)
     → Fits g.node_disjunction c d → Closes word
     → at (i.Operand (fresh true d)) stack (spell g.node_disjunction c (word ∷ more))
-        ≡ run (finish (tree g.node_disjunction c) stack word) more
+    ≡ run (finish (tree g.node_disjunction c) stack word) more
 Reads g.node c = (d : ℕ) (stack : List Frame) (word : Word) (more : List Word) → Fits g.node c d → Closes word
     → at (i.Operand (fresh true d)) stack (spell g.node c (word ∷ more))
-        ≡ run (finish (tree g.node c) stack word) more
+    ≡ run (finish (tree g.node c) stack word) more
 Reads g.node_list c = (q : Pending) (stack : List Frame) (word : Word) (more : List Word)
     → Fits g.node_list c (q.depth + 1) → Closes word
     → at (i.ArrayStart q) stack (spell g.node_list c (word ∷ more))
-        ≡ run (close_item q (tree g.node_list c) stack word) more
+    ≡ run (close_item q (tree g.node_list c) stack word) more
 Reads g.element c = (d : ℕ) (stack : List Frame) (more : List Word) → Fits g.element c d
     → run (Ok (in_element (t.Start d) stack)) (inner_words c more) ≡ run (deliver (tree g.element c) stack) more
 Reads (g.attribute b) c = (tag : Tag) (stack : List Frame) (word : Word) (more : List Word)
     → Fits (g.attribute b) c (tag.depth + 1) → is_sign p.Assign word ≡ false → b ≡ is_suspense tag.name.text
     → run (Ok (in_element (t.Attributes tag) stack)) (spell (g.attribute b) c (word ∷ more))
-        ≡ run (step_attributes (with_entry tag (tree (g.attribute b) c)) stack word) more
+    ≡ run (step_attributes (with_entry tag (tree (g.attribute b) c)) stack word) more
 Reads (g.attributes b) c = (d : ℕ) (name : Name) (stack : List Frame) (word : Word) (more : List Word)
     → Fits (g.attributes b) c (d + 1) → is_sign p.Assign word ≡ false → b ≡ is_suspense name.text
     → run (Ok (in_element (t.Attributes (tag_of d name [])) stack)) (spell (g.attributes b) c (word ∷ more))
-        ≡ run (step_attributes (tag_of d name (tree (g.attributes b) c)) stack word) more
+    ≡ run (step_attributes (tag_of d name (tree (g.attributes b) c)) stack word) more
 Reads g.child c = (x : Opened) (stack : List Frame) (more : List Word) → Fits g.child c (x.depth + 1)
     → (holds_children x.name ≡ false → tree g.child c ≡ [])
     → run (Ok (in_element (t.Children x) stack)) (spell g.child c more)
-        ≡ run (Ok (in_element (t.Children (with_kids x (tree g.child c))) stack)) more
+    ≡ run (Ok (in_element (t.Children (with_kids x (tree g.child c))) stack)) more
 Reads g.children c = (d : ℕ) (name : Option Name) (props : List (Entry Node)) (stack : List Frame) (more : List Word)
     → Fits g.children c (d + 1)
     → (holds_children name ≡ false → tree g.children c ≡ [])
     → run (Ok (in_element (t.Children (opened_of d name props [])) stack)) (spell g.children c more)
-        ≡ run (Ok (in_element (t.Children (opened_of d name props (tree g.children c))) stack)) more
+    ≡ run (Ok (in_element (t.Children (opened_of d name props (tree g.children c))) stack)) more
 Reads g.names c = (x : Signature) (stack : List Frame) (more : List Word) → Fits g.names c 2
     → run (Ok (outside (o.FirstProperty (signature_of x [])) stack)) (spell g.names c more)
-        ≡ run (Ok (outside (o.PropertyEnd (signature_of x (tree g.names c))) stack)) more
+    ≡ run (Ok (outside (o.PropertyEnd (signature_of x (tree g.names c))) stack)) more
 Reads g.properties c = (x : Signature) (stack : List Frame) (more : List Word) → Fits g.properties c 2
     → run (Ok (outside (o.Properties (signature_of x [])) stack)) (spell g.properties c (w.Sign p.CloseParen ∷ more))
-        ≡ run (Ok (outside (o.Body (signature_of x (tree g.properties c))) stack)) more
+    ≡ run (Ok (outside (o.Body (signature_of x (tree g.properties c))) stack)) more
 Reads g.statement c = (draft : Draft) (stack : List Frame) (more : List Word) → Fits g.statement c 1
     → run (Ok (within (b.Start draft) stack)) (spell g.statement c more)
-        ≡ run (Ok (within (b.Start (steps.with_stmt draft (tree g.statement c))) stack)) more
+    ≡ run (Ok (within (b.Start (steps.with_stmt draft (tree g.statement c))) stack)) more
 Reads g.statements c = (x : Signature) (stack : List Frame) (more : List Word) → Fits g.statements c 1
     → run (Ok (within (b.Start (draft_of x [])) stack)) (spell g.statements c more)
-        ≡ run (Ok (within (b.Start (draft_of x (tree g.statements c))) stack)) more
+    ≡ run (Ok (within (b.Start (draft_of x (tree g.statements c))) stack)) more
 Reads g.component c = (before : List Component) (stack : List Frame) (more : List Word) → Fits g.component c 0
     → run (Ok (outside (o.File before) stack)) (spell g.component c more)
-        ≡ run (Ok (outside (o.File (before ++ tree g.component c ∷ [])) stack)) more
+    ≡ run (Ok (outside (o.File (before ++ tree g.component c ∷ [])) stack)) more
 Reads g.components c = (stack : List Frame) (more : List Word) → Fits g.components c 0
     → run (Ok (outside (o.File []) stack)) (spell g.components c more)
-        ≡ run (Ok (outside (o.File (tree g.components c)) stack)) more
+    ≡ run (Ok (outside (o.File (tree g.components c)) stack)) more
 
 not_nots : (k : ℕ) (x : Expr) → e.Not (nots_of k x) ≡ nots_of k (e.Not x)
 not_nots zero x = refl
@@ -272,7 +269,7 @@ equal_step true q d stack more none = rw none refl
 
 question : (q : Pending) (d : Dotted) (stack : List Frame) (more : List Word) → HasRoom q.depth
     → at (i.Value q d) stack (w.Sign p.Question ∷ more)
-        ≡ at (i.Operand (fresh q.place (q.depth + 1))) (f.Yes (steps.conditional q d) ∷ stack) more
+    ≡ at (i.Operand (fresh q.place (q.depth + 1))) (f.Yes (steps.conditional q d) ∷ stack) more
 question q d stack more room = when _ _ _ _ _ room refl
 
 nots_of-add : (k : ℕ) (x : Expr) → nots_of (k + 1) x ≡ nots_of k (e.Not x)
@@ -284,7 +281,7 @@ nesting-not a b d is = omega arith
 -- a part after an operand of a node place, before a word that ends it
 after_part-closes : (d : ℕ) (ors ands : List Expr) (x : Part) (stack : List Frame) (word : Word) (more : List Word) → Closes word
     → run (Ok (after_part (pend true d ors ands None [] 0) x stack)) (word ∷ more)
-        ≡ run (finish (node_part (pend true d ors ands None [] 0) x) stack word) more
+    ≡ run (finish (node_part (pend true d ors ands None [] 0) x) stack word) more
 after_part-closes d ors ands (Value x) stack word more closes =
     ap (λ (m : Moved). run m more) (closes.value (pend true d ors ands None [] 0) (dotted x) stack)
 after_part-closes d ors ands (Other x) stack word more closes = refl
@@ -485,7 +482,7 @@ map_start : (q : Pending) (d : Dotted) (stack : List Frame) (place : ℕ) (more 
     → at (i.Value q d) stack (w.Sign p.Dot ∷ w.Name (codes "map") place ∷ w.Sign p.OpenParen ∷ w.Sign p.OpenParen ∷ more) ≡ z
 map_start q d stack place more z allows outer inner h =
     ap (λ (names : Option (List (List ℕ))). run (steps.step_open q (steps.with_name d (record { text = codes "map"; at = place })) names stack (w.Sign p.OpenParen)) (w.Sign p.OpenParen ∷ more))
-        (names_before_map-append d.names)
+    (names_before_map-append d.names)
     ∙ when _ _ _ (w.Sign p.OpenParen ∷ more) _ outer (when _ _ _ (w.Sign p.OpenParen ∷ more) _ (both_true _ _ allows inner) h)
 
 complete : (s : Sort) (c : Syntax s) → Reads s c
@@ -507,163 +504,163 @@ complete _ (g.no_bang c) = λ q stack d more fits is.
 complete _ (g.bang c) = λ q stack d more fits is.
     let end = complete g.unary c (steps.after_not q) stack (d + 1) more fits.1 (nesting-not q.depth q.nots d is) in
     record {
-        nots = end.nots;
-        last = end.last;
-        reads = when _ _ _ _ _ (ap has_room is ∙ fits.0) end.reads;
-        value = end.value ∙ nots_of-add q.nots (tree g.unary c)
+      nots = end.nots;
+      last = end.last;
+      reads = when _ _ _ _ _ (ap has_room is ∙ fits.0) end.reads;
+      value = end.value ∙ nots_of-add q.nots (tree g.unary c);
     }
 complete _ (g.no_plus c) = λ pl d ors ands left stack more fits.
     let end = complete g.unary c (pend pl d ors ands left [] 0) stack d more fits (add-zero d) in
     record {
-        sums = [];
-        nots = end.nots;
-        last = end.last;
-        reads = end.reads;
-        value = ap (λ (x : Expr). x ∷ []) end.value
+      sums = [];
+      nots = end.nots;
+      last = end.last;
+      reads = end.reads;
+      value = ap (λ (x : Expr). x ∷ []) end.value;
     }
 complete _ (g.plus c u) = λ pl d ors ands left stack more fits.
     let first = complete g.sum c pl d ors ands left stack (w.Sign p.Plus ∷ spell g.unary u more) fits.0 in
     let end = complete g.unary u (pend pl d ors ands left (tree g.sum c) 0) stack d more fits.1 (add-zero d) in
     record {
-        sums = tree g.sum c;
-        nots = end.nots;
-        last = end.last;
-        reads = first.reads
-            ∙ ap (λ (xs : List Expr). at (i.Operand (pend pl d ors ands left xs 0)) stack (spell g.unary u more)) first.value
-            ∙ end.reads;
-        value = ap (λ (x : Expr). tree g.sum c ++ x ∷ []) end.value
+      sums = tree g.sum c;
+      nots = end.nots;
+      last = end.last;
+      reads = first.reads
+          ∙ ap (λ (xs : List Expr). at (i.Operand (pend pl d ors ands left xs 0)) stack (spell g.unary u more)) first.value
+          ∙ end.reads;
+      value = ap (λ (x : Expr). tree g.sum c ++ x ∷ []) end.value;
     }
 complete _ (g.no_equal c) = λ pl d ors ands stack more fits.
     let end = complete g.sum c pl d ors ands None stack more fits in
     record {
-        left = None;
-        sums = end.sums;
-        nots = end.nots;
-        last = end.last;
-        reads = end.reads;
-        value = ap sum_of end.value
+      left = None;
+      sums = end.sums;
+      nots = end.nots;
+      last = end.last;
+      reads = end.reads;
+      value = ap sum_of end.value;
     }
 complete _ (g.equal negated c u) = λ pl d ors ands stack more fits.
     let first = complete g.sum c pl d ors ands None stack (w.Sign (equal_sign negated) ∷ spell g.sum u more) fits.0 in
     let left : Left = record { value = sum_of (tree g.sum c); negated = negated } in
     let end = complete g.sum u pl d ors ands (Some left) stack more fits.1 in
     record {
-        left = Some left;
-        sums = end.sums;
-        nots = end.nots;
-        last = end.last;
-        reads = first.reads
-            ∙ equal_step negated (pend pl d ors ands None first.sums first.nots) first.last stack (spell g.sum u more) refl
-            ∙ ap (λ (xs : List Expr). at (i.Operand (pend pl d ors ands (Some (record { value = sum_of xs; negated = negated })) [] 0)) stack (spell g.sum u more)) first.value
-            ∙ end.reads;
-        value = ap (λ (xs : List Expr). e.Equal (sum_of (tree g.sum c)) (sum_of xs) negated) end.value
+      left = Some left;
+      sums = end.sums;
+      nots = end.nots;
+      last = end.last;
+      reads = first.reads
+          ∙ equal_step negated (pend pl d ors ands None first.sums first.nots) first.last stack (spell g.sum u more) refl
+          ∙ ap (λ (xs : List Expr). at (i.Operand (pend pl d ors ands (Some (record { value = sum_of xs; negated = negated })) [] 0)) stack (spell g.sum u more)) first.value
+          ∙ end.reads;
+      value = ap (λ (xs : List Expr). e.Equal (sum_of (tree g.sum c)) (sum_of xs) negated) end.value;
     }
 complete _ (g.no_and c) = λ pl d ors stack more fits.
     let end = complete g.equality c pl d ors [] stack more fits in
     record {
-        ands = [];
-        left = end.left;
-        sums = end.sums;
-        nots = end.nots;
-        last = end.last;
-        reads = end.reads;
-        value = ap (λ (x : Expr). x ∷ []) end.value
+      ands = [];
+      left = end.left;
+      sums = end.sums;
+      nots = end.nots;
+      last = end.last;
+      reads = end.reads;
+      value = ap (λ (x : Expr). x ∷ []) end.value;
     }
 complete _ (g.and c u) = λ pl d ors stack more fits.
     let first = complete g.conjunction c pl d ors stack (w.Sign p.AndAnd ∷ spell g.equality u more) fits.0 in
     let end = complete g.equality u pl d ors (tree g.conjunction c) stack more fits.1 in
     record {
-        ands = tree g.conjunction c;
-        left = end.left;
-        sums = end.sums;
-        nots = end.nots;
-        last = end.last;
-        reads = first.reads
-            ∙ ap (λ (xs : List Expr). at (i.Operand (pend pl d ors xs None [] 0)) stack (spell g.equality u more)) first.value
-            ∙ end.reads;
-        value = ap (λ (x : Expr). tree g.conjunction c ++ x ∷ []) end.value
+      ands = tree g.conjunction c;
+      left = end.left;
+      sums = end.sums;
+      nots = end.nots;
+      last = end.last;
+      reads = first.reads
+          ∙ ap (λ (xs : List Expr). at (i.Operand (pend pl d ors xs None [] 0)) stack (spell g.equality u more)) first.value
+          ∙ end.reads;
+      value = ap (λ (x : Expr). tree g.conjunction c ++ x ∷ []) end.value;
     }
 complete _ (g.no_or c) = λ pl d stack more fits.
     let end = complete g.conjunction c pl d [] stack more fits in
     record {
-        ors = [];
-        ands = end.ands;
-        left = end.left;
-        sums = end.sums;
-        nots = end.nots;
-        last = end.last;
-        reads = end.reads;
-        value = ap (λ (xs : List Expr). and_of xs ∷ []) end.value
+      ors = [];
+      ands = end.ands;
+      left = end.left;
+      sums = end.sums;
+      nots = end.nots;
+      last = end.last;
+      reads = end.reads;
+      value = ap (λ (xs : List Expr). and_of xs ∷ []) end.value;
     }
 complete _ (g.or c u) = λ pl d stack more fits.
     let first = complete g.disjunction c pl d stack (w.Sign p.OrOr ∷ spell g.conjunction u more) fits.0 in
     let end = complete g.conjunction u pl d (tree g.disjunction c) stack more fits.1 in
     record {
-        ors = tree g.disjunction c;
-        ands = end.ands;
-        left = end.left;
-        sums = end.sums;
-        nots = end.nots;
-        last = end.last;
-        reads = first.reads
-            ∙ ap (λ (xs : List Expr). at (i.Operand (pend pl d xs [] None [] 0)) stack (spell g.conjunction u more)) first.value
-            ∙ end.reads;
-        value = ap (λ (xs : List Expr). tree g.disjunction c ++ and_of xs ∷ []) end.value
+      ors = tree g.disjunction c;
+      ands = end.ands;
+      left = end.left;
+      sums = end.sums;
+      nots = end.nots;
+      last = end.last;
+      reads = first.reads
+          ∙ ap (λ (xs : List Expr). at (i.Operand (pend pl d xs [] None [] 0)) stack (spell g.conjunction u more)) first.value
+          ∙ end.reads;
+      value = ap (λ (xs : List Expr). tree g.disjunction c ++ and_of xs ∷ []) end.value;
     }
 complete _ (g.no_choice c) = λ pl d stack word more fits closes.
     let end = complete g.disjunction c pl d stack (word ∷ more) fits in
     end.reads
-        ∙ ap (λ (m : Moved). run m more) (closes.value (pend pl d end.ors end.ands end.left end.sums end.nots) end.last stack)
-        ∙ ap (λ (xs : List Expr). run (finish (Value (or_of xs)) stack word) more) end.value
+    ∙ ap (λ (m : Moved). run m more) (closes.value (pend pl d end.ors end.ands end.left end.sums end.nots) end.last stack)
+    ∙ ap (λ (xs : List Expr). run (finish (Value (or_of xs)) stack word) more) end.value
 complete _ (g.choice c u v) = λ pl d stack word more fits closes.
     let rest = spell g.expression u (w.Sign p.Colon ∷ spell g.expression v (word ∷ more)) in
     let end = complete g.disjunction c pl d stack (w.Sign p.Question ∷ rest) fits.0 in
     let yes_ = complete g.expression u pl (d + 1) (f.Yes (test_of pl d (or_of (tree g.disjunction c))) ∷ stack)
-        (w.Sign p.Colon) (spell g.expression v (word ∷ more)) fits.2 closes_colon in
+    (w.Sign p.Colon) (spell g.expression v (word ∷ more)) fits.2 closes_colon in
     let no_ = complete g.expression v pl (d + 1)
-        (f.No (test_of pl d (or_of (tree g.disjunction c))) (Value (tree g.expression u)) ∷ stack) word more fits.3 closes in
+    (f.No (test_of pl d (or_of (tree g.disjunction c))) (Value (tree g.expression u)) ∷ stack) word more fits.3 closes in
     end.reads
-        ∙ question (pend pl d end.ors end.ands end.left end.sums end.nots) end.last stack rest fits.1
-        ∙ ap (λ (xs : List Expr). at (i.Operand (fresh pl (d + 1))) (f.Yes (test_of pl d (or_of xs)) ∷ stack) rest) end.value
-        ∙ yes_ ∙ no_
+    ∙ question (pend pl d end.ors end.ands end.left end.sums end.nots) end.last stack rest fits.1
+    ∙ ap (λ (xs : List Expr). at (i.Operand (fresh pl (d + 1))) (f.Yes (test_of pl d (or_of xs)) ∷ stack) rest) end.value
+    ∙ yes_ ∙ no_
 complete _ (g.value c) = λ d stack word more fits closes. complete g.expression c true d stack word more fits closes
 complete _ (g.node_choice c u v) = λ d stack word more fits closes.
     let rest = spell g.node u (w.Sign p.Colon ∷ spell g.node v (word ∷ more)) in
     let end = complete g.disjunction c true d stack (w.Sign p.Question ∷ rest) fits.0 in
     let yes_ = complete g.node u (d + 1) (f.Yes (test_of true d (or_of (tree g.disjunction c))) ∷ stack)
-        (w.Sign p.Colon) (spell g.node v (word ∷ more)) fits.2 closes_colon in
+    (w.Sign p.Colon) (spell g.node v (word ∷ more)) fits.2 closes_colon in
     let no_ = complete g.node v (d + 1)
-        (f.No (test_of true d (or_of (tree g.disjunction c))) (tree g.node u) ∷ stack) word more fits.3 closes in
+    (f.No (test_of true d (or_of (tree g.disjunction c))) (tree g.node u) ∷ stack) word more fits.3 closes in
     end.reads
-        ∙ question (pend true d end.ors end.ands end.left end.sums end.nots) end.last stack rest fits.1
-        ∙ ap (λ (xs : List Expr). at (i.Operand (fresh true (d + 1))) (f.Yes (test_of true d (or_of xs)) ∷ stack) rest) end.value
-        ∙ yes_ ∙ no_
+    ∙ question (pend true d end.ors end.ands end.left end.sums end.nots) end.last stack rest fits.1
+    ∙ ap (λ (xs : List Expr). at (i.Operand (fresh true (d + 1))) (f.Yes (test_of true d (or_of xs)) ∷ stack) rest) end.value
+    ∙ yes_ ∙ no_
 complete _ (g.chain c) = complete g.node_disjunction c
 complete _ (g.or_alone c) = λ d stack word more fits closes.
     complete g.node_conjunction c d [] stack word more fits closes
-        ∙ ap (λ (x : Part). run (finish x stack word) more) (or_part-nil (tree g.node_conjunction c))
+    ∙ ap (λ (x : Part). run (finish x stack word) more) (or_part-nil (tree g.node_conjunction c))
 complete _ (g.or_last c u) = λ d stack word more fits closes.
     let rest = spell g.node_conjunction u (word ∷ more) in
     let end = complete g.disjunction c true d stack (w.Sign p.OrOr ∷ rest) fits.0 in
     end.reads
-        ∙ ap (λ (xs : List Expr). at (i.Operand (pend true d xs [] None [] 0)) stack rest) end.value
-        ∙ complete g.node_conjunction u d (tree g.disjunction c) stack word more fits.1 closes
+    ∙ ap (λ (xs : List Expr). at (i.Operand (pend true d xs [] None [] 0)) stack rest) end.value
+    ∙ complete g.node_conjunction u d (tree g.disjunction c) stack word more fits.1 closes
 complete _ (g.and_alone c) = λ d ors stack word more fits closes.
     complete g.node_primary c d ors [] stack (word ∷ more) fits
-        ∙ after_part-closes d ors [] (tree g.node_primary c) stack word more closes
-        ∙ ap (λ (x : Part). run (finish (or_part ors x) stack word) more) (and_part-nil (tree g.node_primary c))
+    ∙ after_part-closes d ors [] (tree g.node_primary c) stack word more closes
+    ∙ ap (λ (x : Part). run (finish (or_part ors x) stack word) more) (and_part-nil (tree g.node_primary c))
 complete _ (g.and_last c u) = λ d ors stack word more fits closes.
     let rest = spell g.node_primary u (word ∷ more) in
     let end = complete g.conjunction c true d ors stack (w.Sign p.AndAnd ∷ rest) fits.0 in
     end.reads
-        ∙ ap (λ (xs : List Expr). at (i.Operand (pend true d ors xs None [] 0)) stack rest) end.value
-        ∙ complete g.node_primary u d ors (tree g.conjunction c) stack (word ∷ more) fits.1
-        ∙ after_part-closes d ors (tree g.conjunction c) (tree g.node_primary u) stack word more closes
+    ∙ ap (λ (xs : List Expr). at (i.Operand (pend true d ors xs None [] 0)) stack rest) end.value
+    ∙ complete g.node_primary u d ors (tree g.conjunction c) stack (word ∷ more) fits.1
+    ∙ after_part-closes d ors (tree g.conjunction c) (tree g.node_primary u) stack word more closes
 complete _ (g.node_parens c) = λ d ors ands stack more fits.
     let q = pend true d ors ands None [] 0 in
     when _ _ _ _ _ (ap has_room (add-zero d) ∙ fits.0)
     (deeper true (d + 0) d (f.Parens q ∷ stack) (spell g.node c (w.Sign p.CloseParen ∷ more)) _ (add-zero d)
-        (complete g.node c (d + 1) (f.Parens q ∷ stack) (w.Sign p.CloseParen) more fits.1 closes_paren))
+    (complete g.node c (d + 1) (f.Parens q ∷ stack) (w.Sign p.CloseParen) more fits.1 closes_paren))
 complete _ (g.element_node c) = λ d ors ands stack more fits.
     let q = pend true d ors ands None [] 0 in
     ap (λ (ws : List Word). at (i.Operand q) stack ws) (element_words c more)
@@ -688,7 +685,7 @@ complete _ (g.map_node c place item None u) = λ d ors ands stack more fits.
     let body = spell g.node u (w.Sign p.CloseParen ∷ more) in
     let rest = w.Sign p.CloseParen ∷ w.Sign p.Arrow ∷ body in
     complete g.member c q stack d (w.Sign p.Dot ∷ w.Name (codes "map") place ∷ w.Sign p.OpenParen ∷ w.Sign p.OpenParen
-        ∷ name_word item ∷ rest) fits.0 (add-zero d)
+    ∷ name_word item ∷ rest) fits.0 (add-zero d)
     ∙ map_start q (tree g.member c) stack place (name_word item ∷ rest) _ refl (room_before d fits.1) fits.1
     (named (d + 1 + 1) item (λ name. in_map (m.ItemEnd list name) stack) rest _ fits.2
     (complete g.node u (d + 1) (f.MapBody list item None ∷ stack) (w.Sign p.CloseParen) more fits.4 closes_paren))
@@ -699,7 +696,7 @@ complete _ (g.map_node c place item (Some number_) u) = λ d ors ands stack more
     let rest = w.Sign p.CloseParen ∷ w.Sign p.Arrow ∷ body in
     let names = w.Sign p.Comma ∷ name_word number_ ∷ rest in
     complete g.member c q stack d (w.Sign p.Dot ∷ w.Name (codes "map") place ∷ w.Sign p.OpenParen ∷ w.Sign p.OpenParen
-        ∷ name_word item ∷ names) fits.0 (add-zero d)
+    ∷ name_word item ∷ names) fits.0 (add-zero d)
     ∙ map_start q (tree g.member c) stack place (name_word item ∷ names) _ refl (room_before d fits.1) fits.1
     (named (d + 1 + 1) item (λ name. in_map (m.ItemEnd list name) stack) names _ fits.2
     (named (d + 1 + 1) number_ (λ name. in_map (m.NumberEnd list item name) stack) rest _ fits.3
@@ -708,9 +705,9 @@ complete _ (g.closed x c) = λ d stack more fits.
     complete (g.attributes (is_suspense x.text)) c d x stack (w.Sign p.SlashGreater) more fits.1 refl refl
 complete _ (g.paired x c u place) = λ d stack more fits.
     complete (g.attributes (is_suspense x.text)) c d x stack (w.Sign p.Greater)
-        (spell g.children u (w.Sign p.LessSlash ∷ w.Name x.text place ∷ w.Sign p.Greater ∷ more)) fits.1 refl refl
+    (spell g.children u (w.Sign p.LessSlash ∷ w.Name x.text place ∷ w.Sign p.Greater ∷ more)) fits.1 refl refl
     ∙ complete g.children u d (Some x) (tree (g.attributes (is_suspense x.text)) c) stack
-        (w.Sign p.LessSlash ∷ w.Name x.text place ∷ w.Sign p.Greater ∷ more) fits.2 fits.3
+    (w.Sign p.LessSlash ∷ w.Name x.text place ∷ w.Sign p.Greater ∷ more) fits.2 fits.3
     ∙ when _ _ _ (w.Sign p.Greater ∷ more) _ (bytes_eq-same x.text) refl
 complete _ (g.fragment c) = λ d stack more fits.
     complete g.children c d None [] stack (w.Sign p.LessSlash ∷ w.Sign p.Greater ∷ more) fits.1 (λ no. absurd (true_false no))
@@ -753,7 +750,7 @@ complete _ (g.braced_properties c) = λ sig stack more fits.
     complete g.names c sig stack (w.Sign p.CloseBrace ∷ w.Sign p.CloseParen ∷ more) fits
 complete _ (g.fetch place x used c) = λ draft stack more fits.
     named 1 x _ (w.Sign p.Assign ∷ w.Name (codes "use") used ∷ w.Sign p.OpenParen
-        ∷ spell g.expression c (w.Sign p.CloseParen ∷ w.Sign p.Semicolon ∷ more)) _ fits.0
+    ∷ spell g.expression c (w.Sign p.CloseParen ∷ w.Sign p.Semicolon ∷ more)) _ fits.0
     (complete g.expression c false 2 (f.Use draft x ∷ stack) (w.Sign p.CloseParen) (w.Sign p.Semicolon ∷ more) fits.1 closes_paren)
 complete _ (g.bind place x c) = λ draft stack more fits.
     named 1 x _ (w.Sign p.Assign ∷ spell g.expression c (w.Sign p.Semicolon ∷ more)) _ fits.0
@@ -761,7 +758,7 @@ complete _ (g.bind place x c) = λ draft stack more fits.
     (complete g.expression c false 1 (f.Bind draft x ∷ stack) (w.Sign p.Semicolon) more fits.1 closes_semicolon))
 complete _ (g.throw place c thrown u) = λ draft stack more fits.
     complete g.expression c false 2 (f.If draft ∷ stack) (w.Sign p.CloseParen)
-        (w.Name (codes "throw") thrown ∷ spell g.expression u (w.Sign p.Semicolon ∷ more)) fits.0 closes_paren
+    (w.Name (codes "throw") thrown ∷ spell g.expression u (w.Sign p.Semicolon ∷ more)) fits.0 closes_paren
     ∙ complete g.expression u false 1 (f.Throw draft (tree g.expression c) ∷ stack) (w.Sign p.Semicolon) more fits.1 closes_semicolon
 complete _ g.no_statement = λ sig stack more fits. refl
 complete _ (g.next_statement c u) = λ sig stack more fits.
@@ -779,3 +776,8 @@ complete _ g.no_component = λ stack more fits. refl
 complete _ (g.next_component c u) = λ stack more fits.
     complete g.components c stack (spell g.component u more) fits.0
     ∙ complete g.component u (tree g.components c) stack more fits.1
+
+-- the words of components lead to them
+pub components_read : (c : Syntax g.components) → Fits g.components c 0
+    → run (Ok (outside (o.File []) [])) (spell g.components c []) ≡ run (Ok (outside (o.File (tree g.components c)) [])) []
+components_read c fits = complete g.components c [] [] fits

@@ -3,3 +3,4 @@ pub mod Zipper
 pub mod Closings
 pub mod Sound
 pub mod Alive
+pub mod Reading

@@ -1,9 +1,8 @@
 -- What the parser has read, in terms of the grammar: whole parts for what a position and each frame hold, and the
 -- words that they spell. `At` says it of a state, `at_words` gives the words up to there, in front of those to come.
-use Rattle.std.proofs.Common.{◌≡◌, ℕ, zero, suc, ◌+◌, Bool, true, false, List, [], ◌∷◌, ◌++◌, codes, Option, Some, None, Ok, Err, ◌⊎◌, inl, inr}
+use Rattle.std.proofs.Common.{◌≡◌, ℕ, zero, suc, ◌+◌, Bool, true, false, List, [], ◌∷◌, codes, Option, Some, None, ◌⊎◌, inl, inr}
 use Rattle.jsx_lex.specs.declared.word.Word.{Word}
 use Rattle.jsx_lex.specs.declared.word.Word.TheVariants as w
-use Rattle.jsx_lex.specs.declared.word.Punctuator.{Punctuator}
 use Rattle.jsx_lex.specs.declared.word.Punctuator.TheVariants as p
 use Rattle.jsx_syntax.specs.declared.name.Name.{Name}
 use Rattle.jsx_syntax.specs.declared.name.Entry.{Entry}
@@ -40,7 +39,7 @@ use Rattle.jsx_syntax.specs.Trees.{or_of, sum_of, member_of, node_of, is_suspens
 use Rattle.jsx_syntax.specs.Words.{name_word}
 use Rattle.jsx_syntax.specs.Grammar.{Sort, Syntax, Meaning, spell, tree, Fits, HasRoom, IsName, AreNames, equal_sign}
 use Rattle.jsx_syntax.specs.Grammar as g
-use Rattle.jsx_syntax.specs.Steps.{allows_node, nesting, holds_children, fallback_place, dotted, component_of, with_stmt, same_name}
+use Rattle.jsx_syntax.specs.Steps.{allows_node, nesting, holds_children, fallback_place, component_of, with_stmt, same_name}
 
 -- a whole part with this tree, where so many are open
 pub record Read (s : Sort) (v : Meaning s) (d : ℕ) : Type 0 where
@@ -104,7 +103,7 @@ pub record Before (q : Pending) : Type 0 where
 abbrev pub before_words : (q : Pending) → Before q → List Word → List Word
 before_words q r more =
     ors_words q.ors q.depth r.ors (ands_words q.ands q.depth r.ands (left_words q.left q.depth r.left
-        (sums_words q.sums q.depth r.sums (nots_words q.nots more))))
+    (sums_words q.sums q.depth r.sums (nots_words q.nots more))))
 
 -- a whole part of an expression or a node
 abbrev pub PartRead : Part → Bool → ℕ → Type 0
@@ -138,7 +137,7 @@ pub record Body (x : Draft) : Type 0 where
 abbrev pub body_words : (x : Draft) → Body x → List Word → List Word
 body_words x r more =
     head_words x.signature r.head (w.Sign p.OpenParen ∷ spell g.properties r.properties.syntax (w.Sign p.CloseParen ∷ w.Sign p.OpenBrace
-        ∷ spell g.statements r.stmts.syntax more))
+    ∷ spell g.statements r.stmts.syntax more))
 
 pub record TagRead (tag : Tag) : Type 0 where
   pub room : HasRoom tag.depth
@@ -338,7 +337,7 @@ stack_words (f.Yes c ∷ fs) (part place d) z more =
     stack_words fs (part c.place c.depth) z.1 (spell g.disjunction z.0.test.read.syntax (w.Sign p.Question ∷ more))
 stack_words (f.No c one ∷ fs) (part place d) z more =
     stack_words fs (part c.place c.depth) z.1 (spell g.disjunction z.0.test.read.syntax (w.Sign p.Question
-        ∷ part_words one c.place (c.depth + 1) z.0.one_read (w.Sign p.Colon ∷ more)))
+    ∷ part_words one c.place (c.depth + 1) z.0.one_read (w.Sign p.Colon ∷ more)))
 stack_words (f.Item q items ∷ fs) (part place d) z more =
     stack_words fs (part q.place q.depth) z.1 (before_words q z.0.before (listed_words items (q.depth + 1) z.0.listed more))
 stack_words (f.MapBody x item number_ ∷ fs) (part place d) z more =
@@ -424,11 +423,11 @@ within_words (b.UseOpen draft name) z more =
     body_words draft z.0 (w.Name (codes "const") z.1 ∷ name_word name ∷ w.Sign p.Assign ∷ w.Name (codes "use") z.3 ∷ more)
 within_words (b.End draft) z more =
     body_words z.before z.body (w.Name (codes "const") z.place ∷ name_word z.name ∷ w.Sign p.Assign
-        ∷ w.Name (codes "use") z.used ∷ w.Sign p.OpenParen ∷ spell g.expression z.read.syntax (w.Sign p.CloseParen ∷ more))
+    ∷ w.Name (codes "use") z.used ∷ w.Sign p.OpenParen ∷ spell g.expression z.read.syntax (w.Sign p.CloseParen ∷ more))
 within_words (b.IfOpen draft) z more = body_words draft z.0 (w.Name (codes "if") z.1 ∷ more)
 within_words (b.ThrowWord draft test) z more =
     body_words draft z.0 (w.Name (codes "if") z.1 ∷ w.Sign p.OpenParen
-        ∷ spell g.expression z.2.syntax (w.Sign p.CloseParen ∷ more))
+    ∷ spell g.expression z.2.syntax (w.Sign p.CloseParen ∷ more))
 
 pub record AtValue (q : Pending) (d : Dotted) : Type 0 where
   pub before : Before q

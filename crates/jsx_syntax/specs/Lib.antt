@@ -4,3 +4,4 @@ pub mod Grammar
 pub mod WordTests
 pub mod Steps
 pub mod Refusals
+pub mod Examples

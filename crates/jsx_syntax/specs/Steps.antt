@@ -1,6 +1,6 @@
 -- The parser as steps, one a word: what a state becomes, or why the word is refused. Private functions compute these;
 -- the public contracts speak of the grammar alone, whose files these accept and no others.
-use Rattle.std.specs.Prelude.{◌≡◌, ℕ, zero, suc, ◌+◌, Bool, true, false, not, ◌&&◌, ◌==◌, if◌then◌else◌, List, [], ◌∷◌, ◌++◌, codes, Option, Some, None, Result, Ok, Err, is_none, option_map}
+use Rattle.std.specs.Prelude.{◌≡◌, ℕ, zero, suc, ◌+◌, Bool, true, false, ◌&&◌, ◌==◌, if◌then◌else◌, List, [], ◌∷◌, ◌++◌, codes, Option, Some, None, Result, Ok, Err, is_none, option_map}
 use Rattle.std.specs.Str.{bytes_eq}
 use Rattle.jsx_lex.specs.declared.word.Word.{Word}
 use Rattle.jsx_lex.specs.declared.word.Word.TheVariants as w
@@ -217,10 +217,10 @@ with_stmt draft stmt = record draft { stmts = draft.stmts ++ stmt ∷ [] }
 abbrev pub component_of : Draft → Node → List Component
 component_of draft result =
     draft.signature.components ++ record {
-        name = draft.signature.name;
-        properties = draft.signature.properties;
-        stmts = draft.stmts;
-        result = result
+      name = draft.signature.name;
+      properties = draft.signature.properties;
+      stmts = draft.stmts;
+      result = result;
     } ∷ []
 
 -- after an item of an array
@@ -334,8 +334,8 @@ abbrev pub step_call : Pending → Expr → List Frame → Moved
 step_call q list stack =
     if has_room q.depth
     then (if allows_node q && has_room (q.depth + 1)
-        then Ok (in_map (m.Open (record { pending = q; list = list })) stack)
-        else Err wanted.Value)
+    then Ok (in_map (m.Open (record { pending = q; list = list })) stack)
+    else Err wanted.Value)
     else Err wanted.Shallower
 
 abbrev pub step_equal : Option Left → Pending → List Frame → Moved
@@ -578,7 +578,7 @@ abbrev pub step_start_tag : ℕ → List Frame → Word → Moved
 step_start_tag depth stack word =
     if is_sign p.Greater word then Ok (in_element (t.Children (empty_fragment depth)) stack)
     else name_then (any_name (depth + 1) word)
-        (λ name. in_element (t.Attributes (record { depth = depth; name = name; props = [] })) stack)
+    (λ name. in_element (t.Attributes (record { depth = depth; name = name; props = [] })) stack)
 
 abbrev pub step_in_element : InElement → List Frame → Word → Moved
 step_in_element (t.Start depth) stack word = step_start_tag depth stack word

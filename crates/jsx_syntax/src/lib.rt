@@ -7,15 +7,16 @@
 mod expr;
 mod fault;
 mod file;
+mod laws;
 mod name;
 mod node;
 mod part;
 mod stack;
 mod state;
 
-
 pub use expr::Expr;
 pub use fault::{SyntaxFault, Wanted};
 pub use file::{Component, File, Stmt};
+pub use laws::{file_or_first_refused, one_file, worked_files};
 pub use name::{Entry, Name};
 pub use node::{Node, Prop};
