@@ -9,6 +9,7 @@ pub mod Forms
 pub mod Finding
 pub mod Readings
 pub mod WordForms
+pub mod WordsOfLemmas
 pub mod Digits
 pub mod Decoding
 pub mod Cleaning

@@ -10,7 +10,9 @@ pub mod Reading
 pub mod Classes
 pub mod ModesView
 pub mod SignRows
+pub mod Punctuators
 pub mod TokenWords
+pub mod WordsOf
 pub mod References
 pub mod Cleaning
 pub mod Meanings

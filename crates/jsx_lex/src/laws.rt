@@ -7,6 +7,8 @@ ghost use Rattle.jsx_lex.specs.FaultTable.{IsFaultAt};
 ghost use Rattle.jsx_lex.specs.Meanings.{IsStringText};
 ghost use Rattle.jsx_lex.specs.declared.token.Token.{Token};
 ghost use Rattle.jsx_lex.specs.declared.fault.LexKind.{LexKind};
+ghost use Rattle.jsx_lex.specs.declared.word.Word.{Word};
+ghost use Rattle.jsx_lex.specs.WordsOf.{AreWordsOf};
 
 /// A text has one list of tokens at most.
 pub fn one_token_list()
@@ -34,4 +36,10 @@ pub fn token_words()
 /// A `Str` has one text.
 pub fn one_string_text()
     ensures { (word text other : List ℕ) → IsStringText word text → IsStringText word other → text ≡ other }
+{}
+
+/// Tokens have one list of words.
+pub fn one_word_list()
+    ensures { (text : List ℕ) (tokens : List Token) (words others : List Word) →
+        AreWordsOf text tokens words → AreWordsOf text tokens others → words ≡ others }
 {}
