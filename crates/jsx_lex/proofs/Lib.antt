@@ -16,3 +16,4 @@ pub mod StringDecoding
 pub mod Cutting
 pub mod Texts
 pub mod DecodedTexts
+pub mod StringTextLemmas

@@ -17,3 +17,4 @@ pub mod Meanings
 pub mod ReferenceRows
 pub mod PartBytes
 pub mod LineJoining
+pub mod TokenMeanings

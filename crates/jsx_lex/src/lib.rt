@@ -29,4 +29,4 @@ pub use lexer::lex;
 pub use meaning::{decode_string, decode_tag_string, decode_text, number_value};
 pub use mode::{Change, Mode};
 pub use token::{Token, TokenKind};
-pub use word::{Punctuator, Word};
+pub use word::{Punctuator, Word, word_of};
