@@ -72,7 +72,8 @@ fn push_arguments(
     instruction: &Instruction,
     prefix: &Text,
 ) -> Result<(), OutOfMemory>
-    ensures { OnOk result (out.new.items ≡ out.old.items ++ arguments_of prefix.now instruction.now) }
+    ensures { OnOk result (out.new.items
+        ≡ out.old.items ++ arguments_of prefix.now instruction.now) }
 {
     match instruction {
         Instruction::Complete { boundary, segment } => {

@@ -42,7 +42,8 @@ impl<'a, R: rt::Files> DiskFiles<'a, R> {
     fn refused(&mut self, error: io::Error) -> FilesRefused
         ensures never { result ≢ FilesRefused.NoFile }
         ensures later { self.old.faults ≤ self.new.faults }
-        ensures failed { result ≡ FilesRefused.Failed → FaultCounted self.old.faults self.new.faults }
+        ensures failed { result ≡ FilesRefused.Failed
+            → FaultCounted self.old.faults self.new.faults }
     {
         if error.kind() == ErrorKind::OutOfMemory {
             return FilesRefused::OutOfMemory;

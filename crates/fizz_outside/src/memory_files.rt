@@ -36,8 +36,12 @@ impl Model for MemoryFiles {
 impl MemoryFiles {
     /// The files, and the numbers of the calls that fail. Of a name that stands twice the first counts.
     pub fn new(alloc: Global, files: Vec<(Text, Vec<u8>)>, fails: Vec<u32>) -> MemoryFiles
-        ensures { result
-            ≡ record { entries = entries_of files.items; fails = fails.items; calls = 0; faults = 0 } }
+        ensures { result ≡ record {
+          entries = entries_of files.items;
+          fails = fails.items;
+          calls = 0;
+          faults = 0;
+        } }
     {
         MemoryFiles {
             alloc,
@@ -117,7 +121,8 @@ impl Files for MemoryFiles {
         ensures same { Some (file_at self.new.entries) ≡ Some (file_at self.old.entries) }
         ensures answer { Reads (Some (file_at self.old.entries)) name.now most result }
         ensures cause { HasFileCause self.old.faults self.new.faults result }
-        ensures listed { (result ≡ Err FilesRefused.Failed) ↔ Contains self.old.fails self.old.calls }
+        ensures listed { (result ≡ Err FilesRefused.Failed)
+            ↔ Contains self.old.fails self.old.calls }
         ensures failed { result ≡ Err FilesRefused.Failed → self.new ≡ files_failed self.old }
         ensures answered { result ≢ Err FilesRefused.Failed → result ≢ Err FilesRefused.OutOfMemory
             → self.new ≡ files_answered self.old }
@@ -137,12 +142,15 @@ impl Files for MemoryFiles {
     }
 
     fn write(&mut self, name: &Text, bytes: &[u8]) -> Result<(), FilesRefused>
-        ensures writes { Writes (Some (file_at self.old.entries)) (Some (file_at self.new.entries)) name.now bytes.now result }
+        ensures writes { Writes (Some (file_at self.old.entries))
+            (Some (file_at self.new.entries)) name.now bytes.now result }
         ensures cause { HasFileCause self.old.faults self.new.faults result }
         ensures no_missing { result ≢ Err FilesRefused.NoFile }
-        ensures listed { (result ≡ Err FilesRefused.Failed) ↔ Contains self.old.fails self.old.calls }
+        ensures listed { (result ≡ Err FilesRefused.Failed)
+            ↔ Contains self.old.fails self.old.calls }
         ensures failed { result ≡ Err FilesRefused.Failed → self.new ≡ files_failed self.old }
-        ensures ok { OnOk result (self.new ≡ files_answered (files_with self.old name.now bytes.now)) }
+        ensures ok { OnOk result
+            (self.new ≡ files_answered (files_with self.old name.now bytes.now)) }
         ensures memory { result ≡ Err FilesRefused.OutOfMemory → self.new ≡ self.old }
     {
         if is_listed(&self.fails, self.calls) {

@@ -66,7 +66,8 @@ impl Sink for MemorySink {
     fn write_all(&mut self, bytes: &[u8]) -> Result<(), SinkRefused>
         ensures bytes { Takes (Some self.old.bytes) (Some self.new.bytes) bytes.now result }
         ensures cause { HasSinkCause self.old.faults self.new.faults result }
-        ensures listed { (result ≡ Err SinkRefused.Failed) ↔ Contains self.old.fails self.old.calls }
+        ensures listed { (result ≡ Err SinkRefused.Failed)
+            ↔ Contains self.old.fails self.old.calls }
         ensures ok { OnOk result (self.new ≡ sink_took self.old bytes.now) }
         ensures failed { result ≡ Err SinkRefused.Failed → self.new ≡ sink_failed self.old }
         ensures memory { result ≡ Err SinkRefused.OutOfMemory → self.new ≡ self.old }

@@ -74,7 +74,8 @@ fn plain_length(text: &[u8]) -> usize
 }
 
 fn push_spelling(out: &mut Vec<u8>, byte: u8) -> Result<(), AllocError>
-    ensures { out.new.items ≡ (if is_ok result then out.old.items ++ spelling_of byte else out.old.items) }
+    ensures { out.new.items
+        ≡ (if is_ok result then out.old.items ++ spelling_of byte else out.old.items) }
 {
     match byte {
         b'"' => out.extend_from_slice(b"&quot;"),
@@ -89,7 +90,8 @@ fn push_spelling(out: &mut Vec<u8>, byte: u8) -> Result<(), AllocError>
 /// The one text that is escaped as `bytes`.
 pub fn unescape(alloc: Global, bytes: &[u8]) -> Result<Vec<u8>, EntityFault>
     ensures found { IfOk result (λ text. escape_of text.items ≡ bytes.now) }
-    ensures one { (text : List ℕ) → escape_of text ≡ bytes.now → IfOk result (λ found. found.items ≡ text) }
+    ensures one { (text : List ℕ) → escape_of text ≡ bytes.now
+        → IfOk result (λ found. found.items ≡ text) }
     ensures clean { OnOk result (IsClean bytes.now) }
     ensures utf8 { IsUtf8 bytes.now → IfOk result (λ text. IsUtf8 text.items) }
     ensures refused { IfErr result (HasEntityCause bytes.now) }

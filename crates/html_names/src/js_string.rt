@@ -44,7 +44,8 @@ fn push_quoted(out: &mut Vec<u8>, text: &[u8]) -> Result<(), AllocError>
 }
 
 fn push_char(out: &mut Vec<u8>, c: char) -> Result<(), AllocError>
-    ensures { out.new.items ≡ (if is_ok result then out.old.items ++ char_spelling c else out.old.items) }
+    ensures { out.new.items
+        ≡ (if is_ok result then out.old.items ++ char_spelling c else out.old.items) }
 {
     match spelling_of(c) {
         Spelling::Short(letter) => out.extend_from_slice(&[b'\\', letter]),
@@ -55,7 +56,8 @@ fn push_char(out: &mut Vec<u8>, c: char) -> Result<(), AllocError>
 
 fn push_code(out: &mut Vec<u8>, code: u32) -> Result<(), AllocError>
     requires { code < 2 ^ 16 }
-    ensures { out.new.items ≡ (if is_ok result then out.old.items ++ coded_escape code else out.old.items) }
+    ensures { out.new.items
+        ≡ (if is_ok result then out.old.items ++ coded_escape code else out.old.items) }
 {
     let [a, b, c, d] = hex_digits(code);
     out.extend_from_slice(&[b'\\', b'u', a, b, c, d])
@@ -63,7 +65,8 @@ fn push_code(out: &mut Vec<u8>, code: u32) -> Result<(), AllocError>
 
 fn push_itself(out: &mut Vec<u8>, c: char) -> Result<(), AllocError>
     ensures scalar { IsScalar c }
-    ensures pushed { out.new.items ≡ (if is_ok result then out.old.items ++ encode_utf8 c else out.old.items) }
+    ensures pushed { out.new.items
+        ≡ (if is_ok result then out.old.items ++ encode_utf8 c else out.old.items) }
 {
     let mut buffer = [0; 4];
     out.extend_from_slice(c.encode_utf8(&mut buffer).as_bytes())
@@ -181,7 +184,8 @@ fn split_escape(escape: &[u8]) -> Option<(char, &[u8])>
 }
 
 fn short_char(letter: u8) -> Option<char>
-    ensures { MatchOption result ((c : ℕ) → short_letter c ≢ Some letter) (λ c. short_letter c ≡ Some letter) }
+    ensures { MatchOption result ((c : ℕ) → short_letter c ≢ Some letter)
+        (λ c. short_letter c ≡ Some letter) }
 {
     match letter {
         b'"' => Some('"'),
@@ -260,7 +264,8 @@ fn split_itself(rest: &[u8]) -> Option<(char, &[u8])>
 
 /// The character that begins the bytes, if they begin with one.
 fn first_char(rest: &[u8]) -> Option<char>
-    ensures { MatchOption result (StartsWithNoChar rest.now) (λ c. rest.now ≡ encode_utf8 c ++ drop (len_utf8 c) rest.now) }
+    ensures { MatchOption result (StartsWithNoChar rest.now)
+        (λ c. rest.now ≡ encode_utf8 c ++ drop (len_utf8 c) rest.now) }
 {
     valid_prefix(rest).chars().next()
 }

@@ -37,7 +37,8 @@ pub fn begins_element(bytes: &[u8]) -> bool
 #[tactic(auto, unfolding(crate::specs::Elements::element_rows))]
 fn rows_for(bytes: &[u8]) -> &'static [(&'static str, bool)]
     ensures named { lookup (bytes_eq bytes.now) (map row_of result.now) ≡ void_flag bytes.now }
-    ensures begun { begins_name (map row_of result.now) bytes.now ≡ begins_name element_rows bytes.now }
+    ensures begun { begins_name (map row_of result.now) bytes.now
+        ≡ begins_name element_rows bytes.now }
 {
     match bytes.split_first() {
         Some((first, _)) => rows_from(*first),
@@ -137,7 +138,8 @@ fn attributes_from(first: u8) -> &'static [AttributeRow]
 }
 
 fn find_attribute(rows: &[AttributeRow], name: &[u8]) -> Option<Attribute>
-    ensures { option_map meaning_of result ≡ lookup (bytes_eq name.now) (map attribute_row rows.now) }
+    ensures { option_map meaning_of result
+        ≡ lookup (bytes_eq name.now) (map attribute_row rows.now) }
 {
     match find_row(rows, name) {
         Some((_, (printed, kind))) => Some(Attribute {
