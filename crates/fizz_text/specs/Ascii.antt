@@ -25,14 +25,23 @@ exclamation_mark = 33
 abbrev pub quotation_mark : ℕ
 quotation_mark = 34
 
+abbrev pub dollar_sign : ℕ
+dollar_sign = 36
+
 abbrev pub ampersand : ℕ
 ampersand = 38
 
 abbrev pub apostrophe : ℕ
 apostrophe = 39
 
+abbrev pub asterisk : ℕ
+asterisk = 42
+
 abbrev pub hyphen : ℕ
 hyphen = 45
+
+abbrev pub full_stop : ℕ
+full_stop = 46
 
 abbrev pub slash : ℕ
 slash = 47
@@ -61,6 +70,9 @@ capital_z = 90
 abbrev pub backslash : ℕ
 backslash = 92
 
+abbrev pub low_line : ℕ
+low_line = 95
+
 abbrev pub small_a : ℕ
 small_a = 97
 
@@ -85,6 +97,11 @@ small_u = 117
 abbrev pub small_z : ℕ
 small_z = 122
 
--- The first character that is no ASCII.
+abbrev pub left_curly_bracket : ℕ
+left_curly_bracket = 123
+
+abbrev pub right_curly_bracket : ℕ
+right_curly_bracket = 125
+
 abbrev pub ascii_end : ℕ
 ascii_end = 128

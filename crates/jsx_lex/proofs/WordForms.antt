@@ -5,9 +5,9 @@ use Rattle.std.proofs.lemmas.List.{length-append, take_at, drop_at, append-nil}
 use Rattle.std.proofs.lemmas.List.Elements.{All-nil, All-cons, All-append}
 use Rattle.std.specs.List.{list_all}
 use Rattle.jsx_lex.specs.Characters.{is_name_part, is_tag_name_part}
-use Rattle.jsx_lex.specs.ModeStack.{ModesAt, first_modes, changed}
+use Rattle.jsx_lex.specs.ModeStack.{ModesAt, first_modes, modes_after}
 use Rattle.jsx_lex.specs.Words.{IsName}
-use Rattle.jsx_lex.specs.Lexemes.{Lexeme, HasForm, Stands, spelled, Leads}
+use Rattle.jsx_lex.specs.Lexemes.{Lexeme, HasForm, Stands, spellings, Leads}
 use Rattle.jsx_lex.specs.TokenLists.{token_at, tokens_from, AreTokens}
 use Rattle.jsx_lex.specs.TokenWords.{IsWord}
 use Rattle.jsx_lex.specs.declared.mode.Mode.{Mode}
@@ -54,25 +54,25 @@ one_word text from None word e h = All-nil (HasWord text)
 one_word text from (Some k) word e h =
     All-cons (HasWord text) (record { kind = k; from = from; to = from + length word }) [] (subst (λ (w : List ℕ). IsWord k w) (sym e) (h k refl)) (All-nil (HasWord text))
 
-words_from : (front : List ℕ) (from : ℕ) (modes : ModesAt) (xs : List Lexeme) (rest : List ℕ) (last : ModesAt) → from ≡ length front → Leads modes xs rest last → All (HasWord (front ++ (spelled xs ++ rest))) (tokens_from from xs)
+words_from : (front : List ℕ) (from : ℕ) (modes : ModesAt) (xs : List Lexeme) (rest : List ℕ) (last : ModesAt) → from ≡ length front → Leads modes xs rest last → All (HasWord (front ++ (spellings xs ++ rest))) (tokens_from from xs)
 words_from front from modes [] rest last f h = All-nil (HasWord (front ++ ([] ++ rest)))
 words_from front from modes (x ∷ xs) rest last f h =
-    let text : List ℕ = front ++ (spelled (x ∷ xs) ++ rest) in
-    let inner : spelled (x ∷ xs) ++ rest ≡ x.bytes ++ (spelled xs ++ rest) = append_assoc x.bytes (spelled xs) rest in
-    let at_word : drop from text ≡ x.bytes ++ (spelled xs ++ rest) = drop_at front (spelled (x ∷ xs) ++ rest) from (sym f) ∙ inner in
+    let text : List ℕ = front ++ (spellings (x ∷ xs) ++ rest) in
+    let inner : spellings (x ∷ xs) ++ rest ≡ x.bytes ++ (spellings xs ++ rest) = append_assoc x.bytes (spellings xs) rest in
+    let at_word : drop from text ≡ x.bytes ++ (spellings xs ++ rest) = drop_at front (spellings (x ∷ xs) ++ rest) from (sym f) ∙ inner in
     let word : slice_range text from (from + length x.bytes) ≡ x.bytes =
-    ap (λ (zs : List ℕ). take ((from + length x.bytes) - from) zs) at_word ∙ take_at x.bytes (spelled xs ++ rest) ((from + length x.bytes) - from) (omega arith) in
-    let same : (front ++ x.bytes) ++ (spelled xs ++ rest) ≡ text = append_assoc front x.bytes (spelled xs ++ rest) ∙ ap (λ (zs : List ℕ). front ++ zs) (sym inner) in
+    ap (λ (zs : List ℕ). take ((from + length x.bytes) - from) zs) at_word ∙ take_at x.bytes (spellings xs ++ rest) ((from + length x.bytes) - from) (omega arith) in
+    let same : (front ++ x.bytes) ++ (spellings xs ++ rest) ≡ text = append_assoc front x.bytes (spellings xs ++ rest) ∙ ap (λ (zs : List ℕ). front ++ zs) (sym inner) in
     let l = length-append front x.bytes in
     All-append (HasWord text) (token_at from x.kind (length x.bytes)) (tokens_from (from + length x.bytes) xs)
-    (one_word text from x.kind x.bytes word (λ k e. stands_word modes x (spelled xs ++ rest) k h.0 e))
+    (one_word text from x.kind x.bytes word (λ k e. stands_word modes x (spellings xs ++ rest) k h.0 e))
     (subst (λ (zs : List ℕ). All (HasWord zs) (tokens_from (from + length x.bytes) xs)) same
-    (words_from (front ++ x.bytes) (from + length x.bytes) (changed x.change modes) xs rest last (omega arith) h.1))
+    (words_from (front ++ x.bytes) (from + length x.bytes) (modes_after x.change modes) xs rest last (omega arith) h.1))
 
 pub all_words : (text : List ℕ) (tokens : List Token) → AreTokens text tokens → All (λ (t : Token). IsWord t.kind (slice_range text t.from t.to)) tokens
 all_words text tokens h =
-    let w : All (HasWord (spelled h.lexemes ++ [])) (tokens_from 0 h.lexemes) = words_from [] 0 first_modes h.lexemes [] first_modes refl h.leads in
-    let e : spelled h.lexemes ++ [] ≡ text = append-nil (spelled h.lexemes) ∙ sym h.split in
+    let w : All (HasWord (spellings h.lexemes ++ [])) (tokens_from 0 h.lexemes) = words_from [] 0 first_modes h.lexemes [] first_modes refl h.leads in
+    let e : spellings h.lexemes ++ [] ≡ text = append-nil (spellings h.lexemes) ∙ sym h.split in
     subst (λ (ts : List Token). All (HasWord text) ts) (sym h.tokens_are) (subst (λ (zs : List ℕ). All (HasWord zs) (tokens_from 0 h.lexemes)) e w)
 
 -- the word of one token

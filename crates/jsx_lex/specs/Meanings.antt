@@ -5,8 +5,8 @@ use Rattle.std.specs.Str.Parse.{digits_value}
 use Rattle.fizz_text.specs.Ascii.{backslash, hyphen, small_u}
 use Rattle.jsx_lex.specs.StringParts.{escape_value, meaning_of}
 use Rattle.jsx_lex.specs.Words.{IsStr}
-use Rattle.jsx_lex.specs.References.{decoded}
-use Rattle.jsx_lex.specs.Cleaning.{cleaned}
+use Rattle.jsx_lex.specs.References.{decoded_text}
+use Rattle.jsx_lex.specs.Cleaning.{clean_text}
 
 -- the value of a Number
 abbrev pub number_of : List ℕ → ℤ
@@ -48,8 +48,8 @@ string_text_of word = text_after none (between_quotes word)
 
 -- The text of a Str of Tag: what stands between its quotes, with references replaced.
 abbrev pub tag_text_of : List ℕ → List ℕ
-tag_text_of word = decoded (between_quotes word)
+tag_text_of word = decoded_text (between_quotes word)
 
 -- The text of a JsxText: it is cleaned, and then its references are replaced.
 abbrev pub jsx_text_of : List ℕ → List ℕ
-jsx_text_of word = decoded (cleaned word)
+jsx_text_of word = decoded_text (clean_text word)
