@@ -21,7 +21,12 @@ impl Model for MemorySink {
 
     ghost Value = { SinkRecord };
 
-    ghost view = { λ s. record { bytes = s.bytes.items; fails = s.fails.items; calls = s.calls; faults = s.faults } };
+    ghost view = { λ s. record {
+      bytes = s.bytes.items;
+      fails = s.fails.items;
+      calls = s.calls;
+      faults = s.faults;
+    } };
 }
 
 impl MemorySink {
@@ -54,14 +59,15 @@ impl MemorySink {
 }
 
 impl Sink for MemorySink {
-    ghost held = { λ s. Some s.bytes };
+    ghost contents = { λ s. Some s.bytes };
 
     ghost faults = { λ s. s.faults };
 
     fn write_all(&mut self, bytes: &[u8]) -> Result<(), SinkRefused>
         ensures bytes { Takes (Some self.old.bytes) (Some self.new.bytes) bytes.now result }
         ensures cause { HasSinkCause self.old.faults self.new.faults result }
-        ensures listed { (result ≡ Err SinkRefused.Failed) ↔ Contains self.old.fails self.old.calls }
+        ensures listed { (result ≡ Err SinkRefused.Failed)
+            ↔ Contains self.old.fails self.old.calls }
         ensures ok { OnOk result (self.new ≡ sink_took self.old bytes.now) }
         ensures failed { result ≡ Err SinkRefused.Failed → self.new ≡ sink_failed self.old }
         ensures memory { result ≡ Err SinkRefused.OutOfMemory → self.new ≡ self.old }

@@ -1,6 +1,6 @@
 use crate::{
-    AttrKind, AttrName, EntityFault, attribute, element, is_reserved_id, push_escaped,
-    push_js_string, read_js_string, unescape,
+    AttrKind, AttrName, CommentKind, EntityFault, attribute, begins_element, comment, element,
+    is_reserved_id, push_escaped, push_js_string, read_js_string, unescape,
 };
 use serde_json::Value;
 use std::alloc::Global;
@@ -29,6 +29,66 @@ fn elements_are_those_of_the_table(rt: HostRuntime) {
 }
 
 #[test]
+fn what_begins_an_element(rt: HostRuntime) {
+    for bytes in [
+        "",
+        "a",
+        "blo",
+        "blockquote",
+        "fig",
+        "h",
+        "h1",
+        "s",
+        "sam",
+        "st",
+        "ul",
+        "w",
+    ] {
+        assert!(rt; begins_element(bytes.as_bytes()), "{bytes}");
+    }
+    for bytes in [
+        "A",
+        "ab0",
+        "blockquotes",
+        "dié",
+        "h7",
+        "j",
+        "st0",
+        "t",
+        "template",
+        "z",
+    ] {
+        assert!(rt; !begins_element(bytes.as_bytes()), "{bytes}");
+    }
+}
+
+#[test]
+fn comments_are_read_as_they_are_spelled(rt: HostRuntime) {
+    let comments = [
+        (CommentKind::Complete, "<!--$-->"),
+        (CommentKind::Pending, "<!--$?-->"),
+        (CommentKind::Client, "<!--$!-->"),
+        (CommentKind::End, "<!--/$-->"),
+        (CommentKind::Space, "<!-- -->"),
+    ];
+    for (kind, spelling) in comments {
+        assert_eq!(rt; kind.spelling(), spelling);
+        assert!(rt; comment(spelling.as_bytes()) == Some(kind), "{spelling}");
+    }
+    for bytes in [
+        "",
+        "<!--",
+        "<!---->",
+        "<!--$",
+        "<!--$$-->",
+        "<!--$-->x",
+        "<!--  -->",
+    ] {
+        assert!(rt; comment(bytes.as_bytes()).is_none(), "{bytes}");
+    }
+}
+
+#[test]
 fn attributes_are_those_of_the_table(rt: HostRuntime) {
     let named = [
         ("className", AttrName::Fixed("class"), AttrKind::Plain),
@@ -42,14 +102,14 @@ fn attributes_are_those_of_the_table(rt: HostRuntime) {
         ("rel", AttrName::Own, AttrKind::Plain),
         ("cite", AttrName::Own, AttrKind::Plain),
         ("id", AttrName::Own, AttrKind::Id),
-        ("hidden", AttrName::Own, AttrKind::Flag),
-        ("disabled", AttrName::Own, AttrKind::Flag),
-        ("open", AttrName::Own, AttrKind::Flag),
+        ("hidden", AttrName::Own, AttrKind::Boolean),
+        ("disabled", AttrName::Own, AttrKind::Boolean),
+        ("open", AttrName::Own, AttrKind::Boolean),
         ("key", AttrName::Own, AttrKind::Key),
-        ("aria-label", AttrName::Own, AttrKind::Spoken),
-        ("data-n", AttrName::Own, AttrKind::Spoken),
-        ("data-0-", AttrName::Own, AttrKind::Spoken),
-        ("data-dgst2", AttrName::Own, AttrKind::Spoken),
+        ("aria-label", AttrName::Own, AttrKind::Booleanish),
+        ("data-n", AttrName::Own, AttrKind::Booleanish),
+        ("data-0-", AttrName::Own, AttrKind::Booleanish),
+        ("data-dgst2", AttrName::Own, AttrKind::Booleanish),
     ];
     for (name, printed, kind) in named {
         let found = attribute(name.as_bytes()).map(|a| (a.printed, a.kind));
@@ -104,14 +164,11 @@ fn texts_are_escaped_and_read_back(rt: HostRuntime) -> Result<(), Fail> {
         ("\"&'<>", "&quot;&amp;&#x27;&lt;&gt;"),
         ("a<b é &amp;", "a&lt;b é &amp;amp;"),
     ];
-    for (text, escaped) in texts {
+    for (text, escape) in texts {
         let mut out = "x".as_bytes().to_vec(rt.alloc())?;
         push_escaped(&mut out, text.as_bytes())?;
-        assert!(rt;
-            out.strip_prefix(b"x") == Some(escaped.as_bytes()),
-            "{text}"
-        );
-        let read = unescape(rt.alloc(), escaped.as_bytes())?;
+        assert!(rt; out.strip_prefix(b"x") == Some(escape.as_bytes()), "{text}");
+        let read = unescape(rt.alloc(), escape.as_bytes())?;
         assert!(rt; read.as_slice() == text.as_bytes(), "{text}");
     }
     Ok(())

@@ -2,37 +2,22 @@
 
 ghost use Rattle.std.specs.Prelude.{◌≡◌, ◌≢◌, ◌≤◌, ◌<◌, ◌==◌, ℕ, List, [], ◌∷◌, not, length, IfOk, IfSome, Some, None};
 ghost use Rattle.std.specs.Str.{IsUtf8};
-ghost use Rattle.html_read.specs.Names.{continues_attribute_name, IsTagName};
-ghost use Rattle.html_read.specs.Building.{front_len, IsTokenOf, IsTextOf, IsAttributeOf, AreAttributesOf, IsTextTokenOf, IsEndOf, IsCommentKindOf, IsCommentOf, IsScriptOf, IsTagOf};
+ghost use Rattle.fizz_text.specs.Ascii.{quotation_mark, space};
+ghost use Rattle.html_names.specs.Names.{is_name_byte};
+ghost use Rattle.html_read.specs.Names.{IsTagName};
+ghost use Rattle.html_read.specs.Building.{IsTokenOf, IsTextOf, IsAttributeOf, AreAttributesOf, IsTextTokenOf, IsEndOf, IsCommentOf, IsScriptOf, IsTagOf};
+ghost use Rattle.html_read.specs.Machine.{prefix_len};
 
-use crate::token::{Body, CommentKind, Token};
+use crate::machine::name_len;
+use crate::token::{Body, Token};
 use crate::words::after;
 use fizz_text::{Attr, Attributes, OutOfMemory, Text};
-use html_names::{EntityFault, element, unescape};
+use html_names::{EntityFault, comment, element, unescape};
 use std::alloc::Global;
-
-fn continues_name(byte: u8) -> bool
-    ensures { result ≡ continues_attribute_name byte }
-{
-    matches!(byte, b'A'..=b'Z' | b'a'..=b'z' | b'0'..=b'9' | b'-')
-}
-
-/// How many bytes at the front may stand in an attribute's name.
-fn name_len(bytes: &[u8]) -> usize
-    ensures value { result ≡ front_len continues_attribute_name bytes.now }
-    ensures within { result ≤ length bytes.now }
-{
-    for (len, byte) in bytes.iter().enumerate() {
-        if !continues_name(*byte) {
-            return len;
-        }
-    }
-    bytes.len()
-}
 
 /// How many bytes stand before the first `"`.
 fn value_len(bytes: &[u8]) -> usize
-    ensures value { result ≡ front_len (λ b. not (b == 34)) bytes.now }
+    ensures value { result ≡ prefix_len (λ b. not (b == quotation_mark)) bytes.now }
     ensures within { result ≤ length bytes.now }
 {
     for (len, byte) in bytes.iter().enumerate() {
@@ -67,24 +52,46 @@ fn tag_name(name: &[u8]) -> Option<Text>
     }
 }
 
-/// The text that the bytes are.
-fn text_from(alloc: Global, bytes: &[u8]) -> Result<Option<Text>, OutOfMemory>
-    ensures { IfOk result (λ text. IsUtf8 bytes.now → text ≡ Some bytes.now) }
+/// The name of an attribute, as a text. It is copied only where it is no name that pages often have.
+fn attribute_name(alloc: Global, name: &[u8]) -> Result<Option<Text>, OutOfMemory>
+    ensures { IfOk result (λ text. IsUtf8 name.now → text ≡ Some name.now) }
 {
-    Ok(Text::from_bytes(Vec::from_slice(alloc, bytes)?).ok())
+    match common_name(name) {
+        Some(common) => Ok(Some(Text::fixed(common))),
+        None => Ok(Text::from_bytes(Vec::from_slice(alloc, name)?).ok()),
+    }
 }
 
-/// The attribute at the front, and its length.
+fn common_name(name: &[u8]) -> Option<&'static str>
+    ensures { IfSome result (λ common. common.now ≡ name.now) }
+{
+    match name {
+        b"class" => Some("class"),
+        b"data-dgst" => Some("data-dgst"),
+        b"dir" => Some("dir"),
+        b"disabled" => Some("disabled"),
+        b"hidden" => Some("hidden"),
+        b"href" => Some("href"),
+        b"id" => Some("id"),
+        b"lang" => Some("lang"),
+        b"role" => Some("role"),
+        b"title" => Some("title"),
+        _ => None,
+    }
+}
+
+/// The attribute at the start, and its length.
 fn attribute_at(alloc: Global, bytes: &[u8]) -> Result<Option<(Attr, usize)>, OutOfMemory>
     ensures found { IfOk result (IsAttributeOf bytes.now) }
-    ensures none { IfOk result (λ found. (b : ℕ) (bs : List ℕ) → bytes.now ≡ b ∷ bs → b ≢ 32 → found ≡ None) }
+    ensures none { IfOk result (λ found.
+        (b : ℕ) (bs : List ℕ) → bytes.now ≡ b ∷ bs → b ≢ space → found ≡ None) }
     ensures within { IfOk result (λ found. IfSome found (λ a. (0 < a.1) × (a.1 ≤ length bytes.now))) }
 {
     let Some(named) = bytes.strip_prefix(b" ") else {
         return Ok(None);
     };
     let (name, rest) = named.split_at(name_len(named));
-    let Some(name) = text_from(alloc, name)? else {
+    let Some(name) = attribute_name(alloc, name)? else {
         return Ok(None);
     };
     let Some(quoted) = rest.strip_prefix(b"=\"") else {
@@ -106,7 +113,7 @@ fn attribute_at(alloc: Global, bytes: &[u8]) -> Result<Option<(Attr, usize)>, Ou
     }
 }
 
-/// The attributes at the front, and their length.
+/// The attributes at the start, and their length.
 fn attributes_at(alloc: Global, bytes: &[u8]) -> Result<(Attributes, usize), OutOfMemory>
     ensures found { IfOk result (λ r. AreAttributesOf bytes.now r.0 r.1) }
     ensures within { IfOk result (λ r. r.1 ≤ length bytes.now) }
@@ -158,23 +165,10 @@ fn end_of(bytes: &[u8], from: usize) -> Option<Token>
     })
 }
 
-fn said_of(bytes: &[u8]) -> Option<CommentKind>
-    ensures { IsCommentKindOf bytes.now result }
-{
-    match bytes {
-        b"<!--$-->" => Some(CommentKind::Complete),
-        b"<!--$?-->" => Some(CommentKind::Pending),
-        b"<!--$!-->" => Some(CommentKind::Client),
-        b"<!--/$-->" => Some(CommentKind::End),
-        b"<!-- -->" => Some(CommentKind::Space),
-        _ => None,
-    }
-}
-
 fn comment_of(bytes: &[u8], from: usize) -> Option<Token>
     ensures { IsCommentOf bytes.now from result }
 {
-    let which = said_of(bytes)?;
+    let which = comment(bytes)?;
     Some(Token::Comment { which, from })
 }
 

@@ -5,9 +5,10 @@ ghost use Rattle.html_read.specs.Scanning.{IsStep, IsWalked, AddsToken};
 
 use crate::building::token_of;
 use crate::fault::ReadKind;
-use crate::machine::{Mode, Turn, turn_of};
+use crate::machine::{Mode, Transition, run_len, transition_of};
 use crate::place::Place;
 use crate::token::Token;
+use crate::words::after;
 use fizz_text::OutOfMemory;
 use std::alloc::Global;
 
@@ -27,7 +28,7 @@ pub struct Walked {
     pub fault: Option<(usize, ReadKind)>,
 }
 
-/// Goes on over the byte at `i`, or tells what is wrong there.
+/// Goes on over the byte at `i`, or says what is wrong there.
 fn step(
     alloc: Global,
     tokens: &mut Vec<Token>,
@@ -42,26 +43,26 @@ fn step(
     ensures { IfOk result (IsStep tokens.old.items bytes.now at i place tokens.new.items) }
 {
     let token = &bytes[at.from..i + 1];
-    match turn_of(at.mode, &bytes[at.from..i], token, bytes[i]) {
-        Turn::Goes(mode) => Ok(Ok(At {
+    match transition_of(at.mode, &bytes[at.from..i], token, bytes[i]) {
+        Transition::Goes(mode) => Ok(Ok(At {
             from: at.from,
             mode,
         })),
-        Turn::Ends => {
+        Transition::Ends => {
             add_token(alloc, tokens, token, place + at.from)?;
             Ok(Ok(At {
                 from: i + 1,
                 mode: Mode::Text(Place::Whole),
             }))
         }
-        Turn::Cuts => {
+        Transition::Cuts => {
             add_token(alloc, tokens, &bytes[at.from..i], place + at.from)?;
             Ok(Ok(At {
                 from: i,
                 mode: Mode::Name,
             }))
         }
-        Turn::Fails(kind) => Ok(Err(kind)),
+        Transition::Fails(kind) => Ok(Err(kind)),
     }
 }
 
@@ -94,23 +95,27 @@ pub fn walk(
 {
     let mut tokens = Vec::new(alloc);
     let mut at = At { from: 0, mode };
-    for i in start..bytes.len() {
+    let mut i = start + run_len(mode, after(bytes, start));
+    'bytes: while i < bytes.len() {
         match step(alloc, &mut tokens, bytes, at, i, place)? {
-            Ok(next) => at = next,
-            Err(kind) => {
-                return Ok(Walked {
-                    tokens,
-                    from: at.from,
-                    mode: at.mode,
-                    fault: Some((place + i, kind)),
-                });
+            Ok(next) => {
+                at = next;
+                i += 1 + run_len(next.mode, after(bytes, i + 1));
             }
+            Err(kind) => return Ok(outcome_of(tokens, at, Some((place + i, kind)))),
         }
     }
-    Ok(Walked {
+    Ok(outcome_of(tokens, at, None))
+}
+
+fn outcome_of(tokens: Vec<Token>, at: At, fault: Option<(usize, ReadKind)>) -> Walked
+    ensures { result
+        ≡ record { tokens = tokens; from = at.from; mode = at.mode; fault = fault } }
+{
+    Walked {
         tokens,
         from: at.from,
         mode: at.mode,
-        fault: None,
-    })
+        fault,
+    }
 }

@@ -6,7 +6,7 @@ use Rattle.std.proofs.lemmas.List.Sums.{prefix_len_passes}
 use Rattle.std.proofs.lemmas.List.Splits.{slice_split_first, slice_split_none}
 use Rattle.std.specs.List.{prefix_len, onto_first, join_with_byte}
 use Rattle.jsx_lex.specs.Characters.{is_in_line}
-use Rattle.jsx_lex.specs.Cleaning.{trimmed, lines_of, cleaned, without_leading_blanks, without_trailing_blanks}
+use Rattle.jsx_lex.specs.Cleaning.{trimmed_lines, lines_of, clean_text, without_leading_blanks, without_trailing_blanks}
 use Rattle.jsx_lex.specs.LineJoining.{with_line, with_lines}
 
 abbrev is_some_line : List ℕ → Bool
@@ -54,25 +54,25 @@ lines-some (b ∷ bs) = by_line (nat_eq b 10) refl (lines-some bs)
 abbrev begun : Bool → List ℕ → List ℕ
 begun first line = if first then line else without_leading_blanks line
 
-trimmed-more : (first : Bool) (line text : List ℕ) → trimmed first (line ∷ lines_of text) ≡ without_trailing_blanks (begun first line) ∷ trimmed false (lines_of text)
+trimmed-more : (first : Bool) (line text : List ℕ) → trimmed_lines first (line ∷ lines_of text) ≡ without_trailing_blanks (begun first line) ∷ trimmed_lines false (lines_of text)
 trimmed-more first line text =
     let s = lines-some text in
-    ap (λ (ls : List (List ℕ)). trimmed first (line ∷ ls)) s.2
-    ∙ ap (λ (ls : List (List ℕ)). without_trailing_blanks (begun first line) ∷ trimmed false ls) (sym s.2)
+    ap (λ (ls : List (List ℕ)). trimmed_lines first (line ∷ ls)) s.2
+    ∙ ap (λ (ls : List (List ℕ)). without_trailing_blanks (begun first line) ∷ trimmed_lines false ls) (sym s.2)
 
 -- the turns of the loop
-pub clean-last : (text out rest new line : List ℕ) (first : Bool) (size : ℕ) → with_lines out (trimmed first (lines_of rest)) ≡ cleaned text → size ≡ prefix_len is_in_line rest → length rest ≤ size → line ≡ begun first (take size rest) → new ≡ with_line out line → new ≡ cleaned text
+pub clean-last : (text out rest new line : List ℕ) (first : Bool) (size : ℕ) → with_lines out (trimmed_lines first (lines_of rest)) ≡ clean_text text → size ≡ prefix_len is_in_line rest → length rest ≤ size → line ≡ begun first (take size rest) → new ≡ with_line out line → new ≡ clean_text text
 clean-last text out rest new line first size inv e h l n =
     let whole : line ≡ begun first rest = l ∙ ap (λ (zs : List ℕ). begun first zs) (take_all size rest h) in
     n ∙ (ap (λ (zs : List ℕ). with_line out zs) whole
-    ∙ (ap (λ (ls : List (List ℕ)). with_lines out (trimmed first ls)) (sym (lines-last rest size e h)) ∙ inv))
+    ∙ (ap (λ (ls : List (List ℕ)). with_lines out (trimmed_lines first ls)) (sym (lines-last rest size e h)) ∙ inv))
 
-pub clean-more : (text out rest new line more : List ℕ) (first : Bool) (size : ℕ) → with_lines out (trimmed first (lines_of rest)) ≡ cleaned text → size ≡ prefix_len is_in_line rest → size < length rest → more ≡ drop (size + 1) rest → line ≡ begun first (take size rest) → new ≡ with_line out (without_trailing_blanks line) → with_lines new (trimmed false (lines_of more)) ≡ cleaned text
+pub clean-more : (text out rest new line more : List ℕ) (first : Bool) (size : ℕ) → with_lines out (trimmed_lines first (lines_of rest)) ≡ clean_text text → size ≡ prefix_len is_in_line rest → size < length rest → more ≡ drop (size + 1) rest → line ≡ begun first (take size rest) → new ≡ with_line out (without_trailing_blanks line) → with_lines new (trimmed_lines false (lines_of more)) ≡ clean_text text
 clean-more text out rest new line more first size inv e h m l n =
-    ap (λ (zs : List ℕ). with_lines zs (trimmed false (lines_of more))) (n ∙ ap (λ (zs : List ℕ). with_line out (without_trailing_blanks zs)) l)
-    ∙ (ap (λ (zs : List ℕ). with_lines (with_line out (without_trailing_blanks (begun first (take size rest)))) (trimmed false (lines_of zs))) m
+    ap (λ (zs : List ℕ). with_lines zs (trimmed_lines false (lines_of more))) (n ∙ ap (λ (zs : List ℕ). with_line out (without_trailing_blanks zs)) l)
+    ∙ (ap (λ (zs : List ℕ). with_lines (with_line out (without_trailing_blanks (begun first (take size rest)))) (trimmed_lines false (lines_of zs))) m
     ∙ (ap (λ (ls : List (List ℕ)). with_lines out ls) (sym (trimmed-more first (take size rest) (drop (size + 1) rest)))
-    ∙ (ap (λ (ls : List (List ℕ)). with_lines out (trimmed first ls)) (sym (lines-more rest size e h)) ∙ inv)))
+    ∙ (ap (λ (ls : List (List ℕ)). with_lines out (trimmed_lines first ls)) (sym (lines-more rest size e h)) ∙ inv)))
 
-pub clean-first : (text out : List ℕ) → out ≡ [] → with_lines out (trimmed true (lines_of text)) ≡ cleaned text
-clean-first text out e = ap (λ (zs : List ℕ). with_lines zs (trimmed true (lines_of text))) e ∙ joined (trimmed true (lines_of text))
+pub clean-first : (text out : List ℕ) → out ≡ [] → with_lines out (trimmed_lines true (lines_of text)) ≡ clean_text text
+clean-first text out e = ap (λ (zs : List ℕ). with_lines zs (trimmed_lines true (lines_of text))) e ∙ joined (trimmed_lines true (lines_of text))

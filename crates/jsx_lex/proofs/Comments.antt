@@ -5,7 +5,7 @@ use Rattle.std.proofs.lemmas.Bool.Decides.{Decides-eqb}
 use Rattle.std.proofs.lemmas.Slice.Eq.{starts_is}
 use Rattle.jsx_lex.specs.Characters.{begins}
 use Rattle.jsx_lex.specs.Words.{has_comment_end}
-use Rattle.jsx_lex.specs.Reading.{shifted, comment_end}
+use Rattle.jsx_lex.specs.Reading.{offset_by, comment_end}
 
 -- a text that begins so
 pub begins-split : (front text : List ℕ) → begins front text ≡ true → text ≡ front ++ drop (length front) text
@@ -31,7 +31,7 @@ body-begins b [] after e = by_star (nat_eq 42 b)
     by_star false = refl
 body-begins b (c ∷ cs) after e = e
 
-some-shifted : (k : ℕ) (o : Option ℕ) (n : ℕ) → shifted k o ≡ Some n → (m : ℕ) × (o ≡ Some m) × (k + m ≡ n)
+some-shifted : (k : ℕ) (o : Option ℕ) (n : ℕ) → offset_by k o ≡ Some n → (m : ℕ) × (o ≡ Some m) × (k + m ≡ n)
 some-shifted k None n e = absurd cc
 some-shifted k (Some m) n e = (m, refl, cc)
 
@@ -39,8 +39,8 @@ pub comment_end-complete : (body after : List ℕ) → has_comment_end body ≡ 
 comment_end-complete [] after h = refl
 comment_end-complete (b ∷ bs) after h =
     let p = or_parts (begins (codes "*/") (b ∷ bs)) (has_comment_end bs) h in
-    cond-false (begins (codes "*/") (b ∷ (bs ++ 42 ∷ 47 ∷ after))) (Some 2) (shifted 1 (comment_end (bs ++ 42 ∷ 47 ∷ after))) (begins-body b bs after p.0)
-    ∙ (ap (λ (o : Option ℕ). shifted 1 o) (comment_end-complete bs after p.1)
+    cond-false (begins (codes "*/") (b ∷ (bs ++ 42 ∷ 47 ∷ after))) (Some 2) (offset_by 1 (comment_end (bs ++ 42 ∷ 47 ∷ after))) (begins-body b bs after p.0)
+    ∙ (ap (λ (o : Option ℕ). offset_by 1 o) (comment_end-complete bs after p.1)
     ∙ ap Some (omega arith))
 
 pub record FindsEnd (text : List ℕ) (n : ℕ) : Type 0 where
@@ -67,7 +67,7 @@ comment_end-sound (b ∷ bs) n e = by_end (begins (codes "*/") (b ∷ bs)) refl 
   where
     by_end : (t : Bool) → begins (codes "*/") (b ∷ bs) ≡ t → ((m : ℕ) → comment_end bs ≡ Some m → FindsEnd bs m) → FindsEnd (b ∷ bs) n
     by_end true t ih =
-        let f : comment_end (b ∷ bs) ≡ Some 2 = cond-true (begins (codes "*/") (b ∷ bs)) (Some 2) (shifted 1 (comment_end bs)) t in
+        let f : comment_end (b ∷ bs) ≡ Some 2 = cond-true (begins (codes "*/") (b ∷ bs)) (Some 2) (offset_by 1 (comment_end bs)) t in
         record {
           body = [];
           after = drop 2 (b ∷ bs);
@@ -76,6 +76,6 @@ comment_end-sound (b ∷ bs) n e = by_end (begins (codes "*/") (b ∷ bs)) refl 
           length_is = let s : Some 2 ≡ Some n = sym f ∙ e in let i : 2 ≡ n = cc in sym i;
         }
     by_end false t ih =
-        let f : shifted 1 (comment_end bs) ≡ Some n = sym (cond-false (begins (codes "*/") (b ∷ bs)) (Some 2) (shifted 1 (comment_end bs)) t) ∙ e in
+        let f : offset_by 1 (comment_end bs) ≡ Some n = sym (cond-false (begins (codes "*/") (b ∷ bs)) (Some 2) (offset_by 1 (comment_end bs)) t) ∙ e in
         let m = some-shifted 1 (comment_end bs) n f in
         one_byte b bs n m.0 t m.2 (ih m.0 m.1)

@@ -14,8 +14,8 @@ use Rattle.std.proofs.lemmas.List.Sums.{prefix_len_passes, suffix_len-le-length}
 use Rattle.std.proofs.lemmas.Str.{IsUtf8-append, IsUtf8-take, IsCharBoundary-before_ascii}
 use Rattle.jsx_lex.specs.Characters.{begins}
 use Rattle.jsx_lex.specs.Words.{IsTagStr}
-use Rattle.jsx_lex.specs.References.{reference_names, numeric_reference, named_reference, reference_at, decoded}
-use Rattle.jsx_lex.specs.Cleaning.{is_blank, trimmed, lines_of, cleaned, without_leading_blanks, without_trailing_blanks}
+use Rattle.jsx_lex.specs.References.{reference_names, numeric_reference, named_reference, reference_at, decoded_text}
+use Rattle.jsx_lex.specs.Cleaning.{is_blank, trimmed_lines, lines_of, clean_text, without_leading_blanks, without_trailing_blanks}
 use Rattle.jsx_lex.specs.LineJoining.{with_line, with_lines}
 use Rattle.jsx_lex.specs.Meanings.{tag_text_of, jsx_text_of}
 use Rattle.jsx_lex.proofs.Scanning.{list_all-run}
@@ -144,37 +144,37 @@ reference_is text r e = by_x (begins (codes "#x") text) refl
     by_x false t = by_hash t (begins (codes "#") text) refl
 
 -- What stands before the text may end within a character.
-decoded_from : (k : ℕ) (front text : List ℕ) → length text ≤ k → IsUtf8 (front ++ text) → IsUtf8 (front ++ decoded text)
+decoded_from : (k : ℕ) (front text : List ℕ) → length text ≤ k → IsUtf8 (front ++ text) → IsUtf8 (front ++ decoded_text text)
 decoded_from k front [] l u = u
 decoded_from zero front (b ∷ bs) l u = absurd (omega arith)
 decoded_from (suc k) front (b ∷ bs) l u = by_mark (nat_eq b 38) refl (λ front text. decoded_from k front text)
   where
-    own : decoded (b ∷ bs) ≡ b ∷ decoded bs → ((front text : List ℕ) → length text ≤ k → IsUtf8 (front ++ text) → IsUtf8 (front ++ decoded text)) → IsUtf8 (front ++ decoded (b ∷ bs))
+    own : decoded_text (b ∷ bs) ≡ b ∷ decoded_text bs → ((front text : List ℕ) → length text ≤ k → IsUtf8 (front ++ text) → IsUtf8 (front ++ decoded_text text)) → IsUtf8 (front ++ decoded_text (b ∷ bs))
     own e ih =
         let one : (zs : List ℕ) → (front ++ b ∷ []) ++ zs ≡ front ++ (b ∷ zs) = λ zs. append_assoc front (b ∷ []) zs in
-        subst (λ (zs : List ℕ). IsUtf8 (front ++ zs)) (sym e) (subst IsUtf8 (one (decoded bs)) (ih (front ++ b ∷ []) bs (omega arith) (subst IsUtf8 (sym (one bs)) u)))
+        subst (λ (zs : List ℕ). IsUtf8 (front ++ zs)) (sym e) (subst IsUtf8 (one (decoded_text bs)) (ih (front ++ b ∷ []) bs (omega arith) (subst IsUtf8 (sym (one bs)) u)))
 
-    by_reference : nat_eq b 38 ≡ true → (o : Option (ℕ × ℕ)) → reference_at bs ≡ o → ((front text : List ℕ) → length text ≤ k → IsUtf8 (front ++ text) → IsUtf8 (front ++ decoded text)) → IsUtf8 (front ++ decoded (b ∷ bs))
+    by_reference : nat_eq b 38 ≡ true → (o : Option (ℕ × ℕ)) → reference_at bs ≡ o → ((front text : List ℕ) → length text ≤ k → IsUtf8 (front ++ text) → IsUtf8 (front ++ decoded_text text)) → IsUtf8 (front ++ decoded_text (b ∷ bs))
     by_reference t None e ih = own (decoded-own (b ∷ bs) (omega arith) e) ih
     by_reference t (Some r) e ih =
         let s = reference_is bs r e in
         let i : b ≡ 38 = eqb-true b 38 t in
         let n = s.length_is in
-        let step : decoded (b ∷ bs) ≡ encode_utf8 r.0 ++ decoded (drop r.1 (b ∷ bs)) = decoded-reference (b ∷ bs) r (omega arith) i e (omega arith) in
+        let step : decoded_text (b ∷ bs) ≡ encode_utf8 r.0 ++ decoded_text (drop r.1 (b ∷ bs)) = decoded-reference (b ∷ bs) r (omega arith) i e (omega arith) in
         let goes : drop r.1 (b ∷ bs) ≡ s.more = ap (λ (zs : List ℕ). drop r.1 (b ∷ zs)) s.split ∙ drop_at (b ∷ s.name) s.more r.1 (omega arith) in
         let c = cut_at_ascii front b bs (omega arith) u in
         let m = after_low s.name s.more s.low (subst IsUtf8 s.split c.1) in
         let size = ap length s.split in
         let total = length-append s.name s.more in
-        let d : IsUtf8 (decoded s.more) = ih [] s.more (omega arith) m in
-        subst (λ (zs : List ℕ). IsUtf8 (front ++ zs)) (sym (step ∙ ap (λ (zs : List ℕ). encode_utf8 r.0 ++ decoded zs) goes))
-        (IsUtf8-append front (encode_utf8 r.0 ++ decoded s.more) c.0 (IsUtf8-append (encode_utf8 r.0) (decoded s.more) (character_utf8 r.0 s.is_scalar) d))
+        let d : IsUtf8 (decoded_text s.more) = ih [] s.more (omega arith) m in
+        subst (λ (zs : List ℕ). IsUtf8 (front ++ zs)) (sym (step ∙ ap (λ (zs : List ℕ). encode_utf8 r.0 ++ decoded_text zs) goes))
+        (IsUtf8-append front (encode_utf8 r.0 ++ decoded_text s.more) c.0 (IsUtf8-append (encode_utf8 r.0) (decoded_text s.more) (character_utf8 r.0 s.is_scalar) d))
 
-    by_mark : (t : Bool) → nat_eq b 38 ≡ t → ((front text : List ℕ) → length text ≤ k → IsUtf8 (front ++ text) → IsUtf8 (front ++ decoded text)) → IsUtf8 (front ++ decoded (b ∷ bs))
+    by_mark : (t : Bool) → nat_eq b 38 ≡ t → ((front text : List ℕ) → length text ≤ k → IsUtf8 (front ++ text) → IsUtf8 (front ++ decoded_text text)) → IsUtf8 (front ++ decoded_text (b ∷ bs))
     by_mark true t ih = by_reference t (reference_at bs) refl ih
     by_mark false t ih = own (decoded-plain (b ∷ bs) (omega arith) (eqb-false b 38 t)) ih
 
-pub decoded_utf8 : (text : List ℕ) → IsUtf8 text → IsUtf8 (decoded text)
+pub decoded_utf8 : (text : List ℕ) → IsUtf8 text → IsUtf8 (decoded_text text)
 decoded_utf8 text u = decoded_from (length text) [] text (omega arith) u
 
 pub tag_utf8 : (word : List ℕ) → IsTagStr word → IsUtf8 word → IsUtf8 (tag_text_of word)
@@ -183,7 +183,7 @@ tag_utf8 word s u =
     let l = length-append s.body (s.quote ∷ []) in
     let e : take (length word - 2) (drop 1 word) ≡ s.body =
     ap (λ (zs : List ℕ). take (length zs - 2) (drop 1 zs)) s.spelled ∙ take_at s.body (s.quote ∷ []) (length (s.quote ∷ (s.body ++ s.quote ∷ [])) - 2) (omega arith) in
-    subst (λ (zs : List ℕ). IsUtf8 (decoded zs)) (sym e) (decoded_utf8 s.body body)
+    subst (λ (zs : List ℕ). IsUtf8 (decoded_text zs)) (sym e) (decoded_utf8 s.body body)
 
 -- lines
 record Lines (front text : List ℕ) : Type 0 where
@@ -250,11 +250,11 @@ begun_utf8 : (first : Bool) (line : List ℕ) → IsUtf8 line → IsUtf8 (if fir
 begun_utf8 true line u = u
 begun_utf8 false line u = leading_utf8 line u
 
-trimmed_utf8 : (first : Bool) (lines : List (List ℕ)) → All IsUtf8 lines → All IsUtf8 (trimmed first lines)
+trimmed_utf8 : (first : Bool) (lines : List (List ℕ)) → All IsUtf8 lines → All IsUtf8 (trimmed_lines first lines)
 trimmed_utf8 first [] h = All-nil IsUtf8
 trimmed_utf8 first (x ∷ []) h = All-cons IsUtf8 (if first then x else without_leading_blanks x) [] (begun_utf8 first x (All-head IsUtf8 x [] h)) (All-nil IsUtf8)
 trimmed_utf8 first (x ∷ y ∷ ys) h =
-    All-cons IsUtf8 (without_trailing_blanks (if first then x else without_leading_blanks x)) (trimmed false (y ∷ ys))
+    All-cons IsUtf8 (without_trailing_blanks (if first then x else without_leading_blanks x)) (trimmed_lines false (y ∷ ys))
     (trailing_utf8 (if first then x else without_leading_blanks x) (begun_utf8 first x (All-head IsUtf8 x (y ∷ ys) h)))
     (trimmed_utf8 false (y ∷ ys) (All-tail IsUtf8 x (y ∷ ys) h))
 
@@ -267,11 +267,11 @@ with_lines_utf8 : (text : List ℕ) (lines : List (List ℕ)) → IsUtf8 text �
 with_lines_utf8 text [] u h = u
 with_lines_utf8 text (line ∷ lines) u h = with_lines_utf8 (with_line text line) lines (with_line_utf8 text line u (All-head IsUtf8 line lines h)) (All-tail IsUtf8 line lines h)
 
-pub cleaned_utf8 : (text : List ℕ) → IsUtf8 text → IsUtf8 (cleaned text)
+pub cleaned_utf8 : (text : List ℕ) → IsUtf8 text → IsUtf8 (clean_text text)
 cleaned_utf8 text u =
     let m = lines_utf8 text [] u in
     let all : All IsUtf8 (lines_of text) = subst (λ (ls : List (List ℕ)). All IsUtf8 ls) (sym m.lines_are) (All-cons IsUtf8 m.first m.others m.first_utf8 m.others_utf8) in
-    subst IsUtf8 (joined (trimmed true (lines_of text))) (with_lines_utf8 [] (trimmed true (lines_of text)) (low_utf8 [] refl) (trimmed_utf8 true (lines_of text) all))
+    subst IsUtf8 (joined (trimmed_lines true (lines_of text))) (with_lines_utf8 [] (trimmed_lines true (lines_of text)) (low_utf8 [] refl) (trimmed_utf8 true (lines_of text) all))
 
 pub text_utf8 : (word : List ℕ) → IsUtf8 word → IsUtf8 (jsx_text_of word)
-text_utf8 word u = decoded_utf8 (cleaned word) (cleaned_utf8 word u)
+text_utf8 word u = decoded_utf8 (clean_text word) (cleaned_utf8 word u)

@@ -10,7 +10,7 @@ use Rattle.jsx_lex.specs.SignTable.{SignRow, row, signs_of, code_signs, tag_sign
 use Rattle.jsx_lex.specs.StringParts.{spelling_of}
 use Rattle.jsx_lex.specs.Words.{IsNumber}
 use Rattle.jsx_lex.specs.Lexemes.{Lexeme, HasForm, IsSign, Stands}
-use Rattle.jsx_lex.specs.Reading.{shifted, found, found_sign, number_len, string_len, comment_len, tag_string_len, comment_end, read_code, read_tag, read_children, read_close, read}
+use Rattle.jsx_lex.specs.Reading.{offset_by, found, found_sign, number_len, string_len, comment_len, tag_string_len, comment_end, read_code, read_tag, read_children, read_close, read}
 use Rattle.jsx_lex.specs.declared.mode.Mode.{Mode}
 use Rattle.jsx_lex.specs.declared.mode.Mode.TheVariants.{Code, Tag, Children, Close}
 use Rattle.jsx_lex.specs.declared.mode.Change.{Change}
@@ -82,7 +82,7 @@ some-length : (F : ℕ → Found) (o : Option ℕ) (f : Found) → option_map F 
 some-length F None f e = absurd cc
 some-length F (Some n) f e = (n, refl, e)
 
-some-shifted : (k : ℕ) (o : Option ℕ) (n : ℕ) → shifted k o ≡ Some n → (m : ℕ) × (o ≡ Some m) × (k + m ≡ n)
+some-shifted : (k : ℕ) (o : Option ℕ) (n : ℕ) → offset_by k o ≡ Some n → (m : ℕ) × (o ≡ Some m) × (k + m ≡ n)
 some-shifted k None n e = absurd cc
 some-shifted k (Some m) n e = (m, refl, cc)
 
@@ -149,11 +149,11 @@ a_comment (c ∷ cs) n e = by_slash (nat_eq c 47) refl
   where
     by_star : nat_eq c 47 ≡ false → (t : Bool) → nat_eq c 42 ≡ t → Finds Code (47 ∷ c ∷ cs) (found None n)
     by_star s true t =
-        let f : shifted 2 (comment_end cs) ≡ Some n = sym (cond-false (nat_eq c 47) _ _ s ∙ cond-true (nat_eq c 42) (shifted 2 (comment_end cs)) None t) ∙ e in
+        let f : offset_by 2 (comment_end cs) ≡ Some n = sym (cond-false (nat_eq c 47) _ _ s ∙ cond-true (nat_eq c 42) (offset_by 2 (comment_end cs)) None t) ∙ e in
         let m = some-shifted 2 (comment_end cs) n f in
         subst (λ (x : ℕ). Finds Code (47 ∷ x ∷ cs) (found None n)) (sym (eqb-true c 42 t)) (a_block cs n m.0 m.1 m.2)
     by_star s false t =
-        let f : comment_len (c ∷ cs) ≡ None = cond-false (nat_eq c 47) _ _ s ∙ cond-false (nat_eq c 42) (shifted 2 (comment_end cs)) None t in absurd cc
+        let f : comment_len (c ∷ cs) ≡ None = cond-false (nat_eq c 47) _ _ s ∙ cond-false (nat_eq c 42) (offset_by 2 (comment_end cs)) None t in absurd cc
 
     by_slash : (t : Bool) → nat_eq c 47 ≡ t → Finds Code (47 ∷ c ∷ cs) (found None n)
     by_slash true t =

@@ -8,7 +8,7 @@ use Rattle.std.specs.Char.{is_ascii_digit}
 use Rattle.jsx_lex.specs.Characters.{is_space, is_name_start, is_name_part, is_tag_name_part, is_number_start, is_number_follower, is_quote, is_in_line, is_jsx_text, Ends}
 use Rattle.jsx_lex.specs.StringParts.{spelling_of}
 use Rattle.jsx_lex.specs.Words.{IsSpace, IsLineComment, IsBlockComment, IsName, IsNumber, IsStr, IsTagStr, IsJsxText}
-use Rattle.jsx_lex.specs.Reading.{shifted, found, number_len, string_len, tag_string_len, comment_end, read_code, read_tag, read_children, read_close}
+use Rattle.jsx_lex.specs.Reading.{offset_by, found, number_len, string_len, tag_string_len, comment_end, read_code, read_tag, read_children, read_close}
 use Rattle.jsx_lex.specs.declared.token.TokenKind.TheVariants.{Name, Number, Str, TagStr, JsxText}
 use Rattle.jsx_lex.proofs.Runs.{prefix_len-run}
 use Rattle.jsx_lex.proofs.Comments.{comment_end-complete}
@@ -76,7 +76,7 @@ block-code word after h =
     ap comment_end (append_assoc h.body (42 ∷ 47 ∷ []) after) ∙ comment_end-complete h.body after h.first_end in
     let l : length (h.body ++ 42 ∷ 47 ∷ []) ≡ length h.body + 2 = length-append h.body (42 ∷ 47 ∷ []) in
     subst (λ (w : List ℕ). read_code (w ++ after) ≡ Some (found None (length w))) (sym h.spelled)
-    (ap (λ (o : Option ℕ). option_map (λ n. found None n) (shifted 2 o)) e ∙ ap (λ (k : ℕ). Some (found None k)) (omega arith))
+    (ap (λ (o : Option ℕ). option_map (λ n. found None n) (offset_by 2 o)) e ∙ ap (λ (k : ℕ). Some (found None k)) (omega arith))
 
 -- names
 pub name-code : (word after : List ℕ) → IsName is_name_part word → Ends is_name_part after → read_code (word ++ after) ≡ Some (found (Some Name) (length word))

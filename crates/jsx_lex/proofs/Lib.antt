@@ -9,7 +9,6 @@ pub mod Forms
 pub mod Finding
 pub mod Readings
 pub mod WordForms
-pub mod WordsOfLemmas
 pub mod Digits
 pub mod Decoding
 pub mod Cleaning
@@ -17,3 +16,4 @@ pub mod StringDecoding
 pub mod Cutting
 pub mod Texts
 pub mod DecodedTexts
+pub mod StringTextLemmas

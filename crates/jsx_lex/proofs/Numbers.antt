@@ -8,7 +8,7 @@ use Rattle.std.specs.Char.{is_ascii_digit}
 use Rattle.std.specs.Str.Parse.{digits_value, AllDigits}
 use Rattle.jsx_lex.specs.Characters.{is_number_follower, is_name_part, is_name_start, Ends}
 use Rattle.jsx_lex.specs.Words.{IsDigits, IsNumber}
-use Rattle.jsx_lex.specs.Reading.{shifted, ends, is_numeral, digits_len, number_len}
+use Rattle.jsx_lex.specs.Reading.{offset_by, ends, is_numeral, digits_len, number_len}
 use Rattle.jsx_lex.proofs.Scanning.{list_all-run, AllDigits-from_test}
 use Rattle.jsx_lex.proofs.Runs.{prefix_len-run}
 
@@ -115,13 +115,13 @@ digit_no_minus b bs h = ne_eqb b 45 (λ e. let p = and_parts (is_ascii_digit b) 
 pub number_len-complete : (word after : List ℕ) → IsNumber word → Ends is_number_follower after → number_len (word ++ after) ≡ Some (length word)
 number_len-complete [] after h e = absurd h
 number_len-complete (b ∷ bs) after (inl h) e =
-    cond-false (nat_eq b 45) (shifted 1 (digits_len 1 (2 ^ 63 + 1) (bs ++ after))) (digits_len 0 (2 ^ 63) (b ∷ (bs ++ after))) (digit_no_minus b bs h.0)
+    cond-false (nat_eq b 45) (offset_by 1 (digits_len 1 (2 ^ 63 + 1) (bs ++ after))) (digits_len 0 (2 ^ 63) (b ∷ (bs ++ after))) (digit_no_minus b bs h.0)
     ∙ digits_len-complete 0 (2 ^ 63) (b ∷ bs) after h.0 (omega arith) h.1 e
 number_len-complete (b ∷ bs) after (inr h) e =
     let low : 1 ≤ digits_value 10 bs = h.2 in
     let high : digits_value 10 bs < 2 ^ 63 + 1 = let k = h.3 in omega arith in
-    cond-true (nat_eq b 45) (shifted 1 (digits_len 1 (2 ^ 63 + 1) (bs ++ after))) (digits_len 0 (2 ^ 63) (b ∷ (bs ++ after))) (eq-eqb b 45 h.0)
-    ∙ (ap (λ (o : Option ℕ). shifted 1 o) (digits_len-complete 1 (2 ^ 63 + 1) bs after h.1 low high e)
+    cond-true (nat_eq b 45) (offset_by 1 (digits_len 1 (2 ^ 63 + 1) (bs ++ after))) (digits_len 0 (2 ^ 63) (b ∷ (bs ++ after))) (eq-eqb b 45 h.0)
+    ∙ (ap (λ (o : Option ℕ). offset_by 1 o) (digits_len-complete 1 (2 ^ 63 + 1) bs after h.1 low high e)
     ∙ ap Some (omega arith))
 
 pub record FindsNumber (text : List ℕ) (n : ℕ) : Type 0 where
@@ -132,7 +132,7 @@ pub record FindsNumber (text : List ℕ) (n : ℕ) : Type 0 where
   pub ends : Ends is_number_follower after
   pub length_is : n ≡ length word
 
-some-shifted : (k : ℕ) (o : Option ℕ) (n : ℕ) → shifted k o ≡ Some n → (m : ℕ) × (o ≡ Some m) × (k + m ≡ n)
+some-shifted : (k : ℕ) (o : Option ℕ) (n : ℕ) → offset_by k o ≡ Some n → (m : ℕ) × (o ≡ Some m) × (k + m ≡ n)
 some-shifted k None n e = absurd cc
 some-shifted k (Some m) n e = (m, refl, cc)
 
@@ -146,7 +146,7 @@ number_len-sound (b ∷ bs) n e = by_minus (nat_eq b 45) refl
   where
     by_minus : (t : Bool) → nat_eq b 45 ≡ t → FindsNumber (b ∷ bs) n
     by_minus true t =
-        let f : shifted 1 (digits_len 1 (2 ^ 63 + 1) bs) ≡ Some n = sym (cond-true (nat_eq b 45) (shifted 1 (digits_len 1 (2 ^ 63 + 1) bs)) (digits_len 0 (2 ^ 63) (b ∷ bs)) t) ∙ e in
+        let f : offset_by 1 (digits_len 1 (2 ^ 63 + 1) bs) ≡ Some n = sym (cond-true (nat_eq b 45) (offset_by 1 (digits_len 1 (2 ^ 63 + 1) bs)) (digits_len 0 (2 ^ 63) (b ∷ bs)) t) ∙ e in
         let m = some-shifted 1 (digits_len 1 (2 ^ 63 + 1) bs) n f in
         let d = digits_len-sound 1 (2 ^ 63 + 1) bs m.0 m.1 in
         let low = d.low in
@@ -162,7 +162,7 @@ number_len-sound (b ∷ bs) n e = by_minus (nat_eq b 45) refl
           length_is = omega arith;
         }
     by_minus false t =
-        let f : digits_len 0 (2 ^ 63) (b ∷ bs) ≡ Some n = sym (cond-false (nat_eq b 45) (shifted 1 (digits_len 1 (2 ^ 63 + 1) bs)) (digits_len 0 (2 ^ 63) (b ∷ bs)) t) ∙ e in
+        let f : digits_len 0 (2 ^ 63) (b ∷ bs) ≡ Some n = sym (cond-false (nat_eq b 45) (offset_by 1 (digits_len 1 (2 ^ 63 + 1) bs)) (digits_len 0 (2 ^ 63) (b ∷ bs)) t) ∙ e in
         let d = digits_len-sound 0 (2 ^ 63) (b ∷ bs) n f in
         record {
           word = d.digits;

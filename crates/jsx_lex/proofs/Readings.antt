@@ -2,8 +2,8 @@
 use Rattle.std.proofs.Common.{◌≡◌, ℕ, zero, suc, ◌+◌, ◌-◌, ◌<◌, ◌≤◌, ◌⊎◌, inl, inr, Bool, true, false, List, [], ◌∷◌, ◌++◌, length, drop, take, Option, Some, None, refl, ap, sym, ◌∙◌, arith, subst, append_assoc}
 use Rattle.std.proofs.lemmas.List.{length-append, take_at, drop_at, append-nil, drop_all, length-drop, take_rest}
 use Rattle.std.proofs.lemmas.Bool.{cases_lt}
-use Rattle.jsx_lex.specs.ModeStack.{ModesAt, first_modes, changed}
-use Rattle.jsx_lex.specs.Lexemes.{Lexeme, Stands, BeginsWith, spelled, Leads}
+use Rattle.jsx_lex.specs.ModeStack.{ModesAt, first_modes, modes_after}
+use Rattle.jsx_lex.specs.Lexemes.{Lexeme, Stands, BeginsWith, spellings, Leads}
 use Rattle.jsx_lex.specs.TokenLists.{token_at, tokens_from, AreTokens, InOrder}
 use Rattle.jsx_lex.specs.FaultTable.{kind_at, IsFaultAt}
 use Rattle.jsx_lex.specs.Reading.{read}
@@ -54,19 +54,19 @@ pub record SameWay (xs ys : List Lexeme) (rest other : List ℕ) (last final : M
   pub rests : rest ≡ other
   pub modes : last ≡ final
 
-pub same_way : (modes : ModesAt) (xs ys : List Lexeme) (rest other : List ℕ) (last final : ModesAt) → Leads modes xs rest last → Leads modes ys other final → IsStuck last rest → IsStuck final other → spelled xs ++ rest ≡ spelled ys ++ other → SameWay xs ys rest other last final
+pub same_way : (modes : ModesAt) (xs ys : List Lexeme) (rest other : List ℕ) (last final : ModesAt) → Leads modes xs rest last → Leads modes ys other final → IsStuck last rest → IsStuck final other → spellings xs ++ rest ≡ spellings ys ++ other → SameWay xs ys rest other last final
 same_way modes [] [] rest other last final h k s u e = record { lexemes = refl; rests = e; modes = sym h ∙ k }
 same_way modes [] (y ∷ ys) rest other last final h k s u e =
     absurd (s y (subst (λ (m : ModesAt). BeginsWith m y rest) h
-    (record { after = spelled ys ++ other; split = e ∙ append_assoc y.bytes (spelled ys) other; stands = k.0 })))
+    (record { after = spellings ys ++ other; split = e ∙ append_assoc y.bytes (spellings ys) other; stands = k.0 })))
 same_way modes (x ∷ xs) [] rest other last final h k s u e =
     absurd (u x (subst (λ (m : ModesAt). BeginsWith m x other) k
-    (record { after = spelled xs ++ rest; split = sym e ∙ append_assoc x.bytes (spelled xs) rest; stands = h.0 })))
+    (record { after = spellings xs ++ rest; split = sym e ∙ append_assoc x.bytes (spellings xs) rest; stands = h.0 })))
 same_way modes (x ∷ xs) (y ∷ ys) rest other last final h k s u e =
-    let split : x.bytes ++ (spelled xs ++ rest) ≡ y.bytes ++ (spelled ys ++ other) = sym (append_assoc x.bytes (spelled xs) rest) ∙ (e ∙ append_assoc y.bytes (spelled ys) other) in
-    let same = same_lexeme modes x y (spelled xs ++ rest) (spelled ys ++ other) h.0 k.0 split in
-    let way = same_way (changed y.change modes) xs ys rest other last final
-    (subst (λ (z : Lexeme). Leads (changed z.change modes) xs rest last) same.0 h.1) k.1 s u same.1 in
+    let split : x.bytes ++ (spellings xs ++ rest) ≡ y.bytes ++ (spellings ys ++ other) = sym (append_assoc x.bytes (spellings xs) rest) ∙ (e ∙ append_assoc y.bytes (spellings ys) other) in
+    let same = same_lexeme modes x y (spellings xs ++ rest) (spellings ys ++ other) h.0 k.0 split in
+    let way = same_way (modes_after y.change modes) xs ys rest other last final
+    (subst (λ (z : Lexeme). Leads (modes_after z.change modes) xs rest last) same.0 h.1) k.1 s u same.1 in
     record {
       lexemes = ap (λ (z : Lexeme). z ∷ xs) same.0 ∙ ap (λ (zs : List Lexeme). y ∷ zs) way.lexemes;
       rests = way.rests;
@@ -86,33 +86,33 @@ one_list text tokens others h k =
 pub tokens_or_fault : (text : List ℕ) (tokens : List Token) (at : ℕ) (kind : LexKind) → AreTokens text tokens → IsFaultAt text at kind → ⊥
 tokens_or_fault text tokens at kind h k =
     let way = same_way first_modes h.lexemes k.lexemes [] k.rest first_modes k.modes h.leads k.leads (end_stuck first_modes) k.stuck
-    (append-nil (spelled h.lexemes) ∙ (sym h.split ∙ k.split)) in
+    (append-nil (spellings h.lexemes) ∙ (sym h.split ∙ k.split)) in
     k.unfinished (sym way.rests, sym way.modes)
 
 pub one_fault : (text : List ℕ) (at place : ℕ) (kind other : LexKind) → IsFaultAt text at kind → IsFaultAt text place other → (at ≡ place) × (kind ≡ other)
 one_fault text at place kind other h k =
     let way = same_way first_modes h.lexemes k.lexemes h.rest k.rest h.modes k.modes h.leads k.leads h.stuck k.stuck (sym h.split ∙ k.split) in (
-      h.place ∙ (ap (λ (xs : List Lexeme). length (spelled xs)) way.lexemes ∙ sym k.place),
+      h.place ∙ (ap (λ (xs : List Lexeme). length (spellings xs)) way.lexemes ∙ sym k.place),
       h.kind_is ∙ (ap (λ (m : ModesAt). kind_at m.mode h.rest) way.modes ∙ (ap (λ (xs : List ℕ). kind_at k.modes.mode xs) way.rests ∙ sym k.kind_is)),
     )
 
 -- one lexeme more
-spelled-push : (xs : List Lexeme) (x : Lexeme) (rest : List ℕ) → spelled (xs ++ x ∷ []) ++ rest ≡ spelled xs ++ (x.bytes ++ rest)
+spelled-push : (xs : List Lexeme) (x : Lexeme) (rest : List ℕ) → spellings (xs ++ x ∷ []) ++ rest ≡ spellings xs ++ (x.bytes ++ rest)
 spelled-push [] x rest = ap (λ (ys : List ℕ). ys ++ rest) (append-nil x.bytes)
 spelled-push (y ∷ ys) x rest =
-    append_assoc y.bytes (spelled (ys ++ x ∷ [])) rest ∙ (ap (λ (zs : List ℕ). y.bytes ++ zs) (spelled-push ys x rest) ∙ sym (append_assoc y.bytes (spelled ys) (x.bytes ++ rest)))
+    append_assoc y.bytes (spellings (ys ++ x ∷ [])) rest ∙ (ap (λ (zs : List ℕ). y.bytes ++ zs) (spelled-push ys x rest) ∙ sym (append_assoc y.bytes (spellings ys) (x.bytes ++ rest)))
 
-leads-push : (modes : ModesAt) (xs : List Lexeme) (x : Lexeme) (rest : List ℕ) (last : ModesAt) → Leads modes xs (x.bytes ++ rest) last → Stands last x rest → Leads modes (xs ++ x ∷ []) rest (changed x.change last)
-leads-push modes [] x rest last h s = (subst (λ (m : ModesAt). Stands m x rest) (sym h) s, ap (λ (m : ModesAt). changed x.change m) h)
+leads-push : (modes : ModesAt) (xs : List Lexeme) (x : Lexeme) (rest : List ℕ) (last : ModesAt) → Leads modes xs (x.bytes ++ rest) last → Stands last x rest → Leads modes (xs ++ x ∷ []) rest (modes_after x.change last)
+leads-push modes [] x rest last h s = (subst (λ (m : ModesAt). Stands m x rest) (sym h) s, ap (λ (m : ModesAt). modes_after x.change m) h)
 leads-push modes (y ∷ ys) x rest last h s =
-    (subst (λ (zs : List ℕ). Stands modes y zs) (sym (spelled-push ys x rest)) h.0, leads-push (changed y.change modes) ys x rest last h.1 s)
+    (subst (λ (zs : List ℕ). Stands modes y zs) (sym (spelled-push ys x rest)) h.0, leads-push (modes_after y.change modes) ys x rest last h.1 s)
 
-tokens-push : (from at : ℕ) (xs : List Lexeme) (x : Lexeme) → from + length (spelled xs) ≡ at → tokens_from from (xs ++ x ∷ []) ≡ tokens_from from xs ++ token_at at x.kind (length x.bytes)
+tokens-push : (from at : ℕ) (xs : List Lexeme) (x : Lexeme) → from + length (spellings xs) ≡ at → tokens_from from (xs ++ x ∷ []) ≡ tokens_from from xs ++ token_at at x.kind (length x.bytes)
 tokens-push from at [] x e =
     let i : from ≡ at = omega arith in
     append-nil (token_at from x.kind (length x.bytes)) ∙ ap (λ (k : ℕ). token_at k x.kind (length x.bytes)) i
 tokens-push from at (y ∷ ys) x e =
-    let l = length-append y.bytes (spelled ys) in
+    let l = length-append y.bytes (spellings ys) in
     ap (λ (ts : List Token). token_at from y.kind (length y.bytes) ++ ts) (tokens-push (from + length y.bytes) at ys x (omega arith))
     ∙ sym (append_assoc (token_at from y.kind (length y.bytes)) (tokens_from (from + length y.bytes) ys) (token_at at x.kind (length x.bytes)))
 
@@ -128,8 +128,8 @@ order-push from at (t ∷ ts) kind n h k = (k.0, k.1, order-push t.to at ts kind
 -- what the lexer has read up to a place
 pub record Reached (text : List ℕ) (at : ℕ) (modes : ModesAt) (tokens : List Token) : Type 0 where
   pub lexemes : List Lexeme
-  pub split : text ≡ spelled lexemes ++ drop at text
-  pub place : at ≡ length (spelled lexemes)
+  pub split : text ≡ spellings lexemes ++ drop at text
+  pub place : at ≡ length (spellings lexemes)
   pub leads : Leads first_modes lexemes (drop at text) modes
   pub tokens_are : tokens ≡ tokens_from 0 lexemes
   pub in_order : InOrder 0 at tokens
@@ -137,22 +137,22 @@ pub record Reached (text : List ℕ) (at : ℕ) (modes : ModesAt) (tokens : List
 pub reached_first : (text : List ℕ) → Reached text 0 first_modes []
 reached_first text = record { lexemes = []; split = refl; place = refl; leads = refl; tokens_are = refl; in_order = omega arith }
 
-pub reached_more : (text : List ℕ) (at : ℕ) (modes : ModesAt) (tokens : List Token) (t : Bool) (f : Found) → (modes ≡ first_modes → t ≡ true) → Reached text at modes tokens → read modes.mode t (drop at text) ≡ Some f → Reached text (at + f.length) (changed f.change modes) (tokens ++ token_at at f.kind f.length)
+pub reached_more : (text : List ℕ) (at : ℕ) (modes : ModesAt) (tokens : List Token) (t : Bool) (f : Found) → (modes ≡ first_modes → t ≡ true) → Reached text at modes tokens → read modes.mode t (drop at text) ≡ Some f → Reached text (at + f.length) (modes_after f.change modes) (tokens ++ token_at at f.kind f.length)
 reached_more text at modes tokens t f first h e =
     let k = found_stands modes t (drop at text) f first e in
     let x : Lexeme = lexeme f k.word in
     let size = k.length_is in
     let place = h.place in
-    let more : spelled (h.lexemes ++ x ∷ []) ≡ spelled h.lexemes ++ k.word = sym (append-nil (spelled (h.lexemes ++ x ∷ []))) ∙ (spelled-push h.lexemes x [] ∙ ap (λ (zs : List ℕ). spelled h.lexemes ++ zs) (append-nil k.word)) in
-    let whole : text ≡ spelled (h.lexemes ++ x ∷ []) ++ k.after = h.split ∙ (ap (λ (zs : List ℕ). spelled h.lexemes ++ zs) k.split ∙ sym (spelled-push h.lexemes x k.after)) in
-    let total : length (spelled (h.lexemes ++ x ∷ [])) ≡ length (spelled h.lexemes) + length k.word = ap length more ∙ length-append (spelled h.lexemes) k.word in
-    let next : at + f.length ≡ length (spelled (h.lexemes ++ x ∷ [])) = omega arith in
-    let rest : drop (at + f.length) text ≡ k.after = ap (λ (zs : List ℕ). drop (at + f.length) zs) whole ∙ drop_at (spelled (h.lexemes ++ x ∷ [])) k.after (at + f.length) (sym next) in
+    let more : spellings (h.lexemes ++ x ∷ []) ≡ spellings h.lexemes ++ k.word = sym (append-nil (spellings (h.lexemes ++ x ∷ []))) ∙ (spelled-push h.lexemes x [] ∙ ap (λ (zs : List ℕ). spellings h.lexemes ++ zs) (append-nil k.word)) in
+    let whole : text ≡ spellings (h.lexemes ++ x ∷ []) ++ k.after = h.split ∙ (ap (λ (zs : List ℕ). spellings h.lexemes ++ zs) k.split ∙ sym (spelled-push h.lexemes x k.after)) in
+    let total : length (spellings (h.lexemes ++ x ∷ [])) ≡ length (spellings h.lexemes) + length k.word = ap length more ∙ length-append (spellings h.lexemes) k.word in
+    let next : at + f.length ≡ length (spellings (h.lexemes ++ x ∷ [])) = omega arith in
+    let rest : drop (at + f.length) text ≡ k.after = ap (λ (zs : List ℕ). drop (at + f.length) zs) whole ∙ drop_at (spellings (h.lexemes ++ x ∷ [])) k.after (at + f.length) (sym next) in
     record {
       lexemes = h.lexemes ++ x ∷ [];
-      split = whole ∙ ap (λ (zs : List ℕ). spelled (h.lexemes ++ x ∷ []) ++ zs) (sym rest);
+      split = whole ∙ ap (λ (zs : List ℕ). spellings (h.lexemes ++ x ∷ []) ++ zs) (sym rest);
       place = next;
-      leads = subst (λ (zs : List ℕ). Leads first_modes (h.lexemes ++ x ∷ []) zs (changed f.change modes)) (sym rest)
+      leads = subst (λ (zs : List ℕ). Leads first_modes (h.lexemes ++ x ∷ []) zs (modes_after f.change modes)) (sym rest)
           (leads-push first_modes h.lexemes x k.after modes (subst (λ (zs : List ℕ). Leads first_modes h.lexemes zs modes) k.split h.leads) k.stands);
       tokens_are = ap (λ (ts : List Token). ts ++ token_at at f.kind f.length) h.tokens_are
           ∙ (ap (λ (n : ℕ). tokens_from 0 h.lexemes ++ token_at at f.kind n) size ∙ sym (tokens-push 0 at h.lexemes x (omega arith)));
@@ -164,7 +164,7 @@ reached_end text at modes tokens l m h =
     let d = drop_all at text l in
     record {
       lexemes = h.lexemes;
-      split = h.split ∙ (ap (λ (zs : List ℕ). spelled h.lexemes ++ zs) d ∙ append-nil (spelled h.lexemes));
+      split = h.split ∙ (ap (λ (zs : List ℕ). spellings h.lexemes ++ zs) d ∙ append-nil (spellings h.lexemes));
       leads = subst (λ (zs : List ℕ). Leads first_modes h.lexemes zs first_modes) d (subst (λ (k : ModesAt). Leads first_modes h.lexemes (drop at text) k) m h.leads);
       tokens_are = h.tokens_are;
     }
@@ -184,7 +184,7 @@ reached_stuck text at modes tokens t first h e u = record {
 
 pub reached_within : (text : List ℕ) (at : ℕ) (modes : ModesAt) (tokens : List Token) → Reached text at modes tokens → at ≤ length text
 reached_within text at modes tokens h =
-    let l : length text ≡ length (spelled h.lexemes) + length (drop at text) = ap length h.split ∙ length-append (spelled h.lexemes) (drop at text) in
+    let l : length text ≡ length (spellings h.lexemes) + length (drop at text) = ap length h.split ∙ length-append (spellings h.lexemes) (drop at text) in
     let p = h.place in
     omega arith
 
@@ -220,7 +220,7 @@ outcome_from (suc k) text at modes tokens l h = by_modes (first_test modes.mode 
     by_read t to_first from_first (Some f) e more =
         let s = (found_stands modes t (drop at text) f from_first e).some in
         let n = (found_stands modes t (drop at text) f from_first e).length_is in
-        more (at + f.length) (changed f.change modes) (tokens ++ token_at at f.kind f.length) (omega arith) (reached_more text at modes tokens t f from_first h e)
+        more (at + f.length) (modes_after f.change modes) (tokens ++ token_at at f.kind f.length) (omega arith) (reached_more text at modes tokens t f from_first h e)
     by_read true to_first from_first None e more = by_length (cases_lt at (length text))
       where
         by_length : (at < length text) ⊎ (length text ≤ at) → Outcome text
@@ -239,11 +239,11 @@ pub record IsNext (text : List ℕ) (at : ℕ) (modes : ModesAt) (tokens : List 
   pub within : at ≤ length text
   pub reached : Reached text at modes tokens
 
-pub lex_step : (text : List ℕ) (at : ℕ) (modes next : ModesAt) (tokens items : List Token) (t : Bool) (f : Found) → (modes ≡ first_modes → t ≡ true) → Reached text at modes tokens → Some f ≡ read modes.mode t (take (length text - at) (drop at text)) → next ≡ changed f.change modes → items ≡ tokens ++ token_at at f.kind f.length → IsNext text (at + f.length) next items
+pub lex_step : (text : List ℕ) (at : ℕ) (modes next : ModesAt) (tokens items : List Token) (t : Bool) (f : Found) → (modes ≡ first_modes → t ≡ true) → Reached text at modes tokens → Some f ≡ read modes.mode t (take (length text - at) (drop at text)) → next ≡ modes_after f.change modes → items ≡ tokens ++ token_at at f.kind f.length → IsNext text (at + f.length) next items
 lex_step text at modes next tokens items t f first h e n i =
     let e' : Some f ≡ read modes.mode t (drop at text) = rw (take_rest text at) at e in
-    let r : Reached text (at + f.length) (changed f.change modes) (tokens ++ token_at at f.kind f.length) = reached_more text at modes tokens t f first h (sym e') in
-    let r' : Reached text (at + f.length) next items = subst (λ (m : ModesAt). Reached text (at + f.length) m items) (sym n) (subst (λ (ts : List Token). Reached text (at + f.length) (changed f.change modes) ts) (sym i) r) in
+    let r : Reached text (at + f.length) (modes_after f.change modes) (tokens ++ token_at at f.kind f.length) = reached_more text at modes tokens t f first h (sym e') in
+    let r' : Reached text (at + f.length) next items = subst (λ (m : ModesAt). Reached text (at + f.length) m items) (sym n) (subst (λ (ts : List Token). Reached text (at + f.length) (modes_after f.change modes) ts) (sym i) r) in
     record { within = reached_within text (at + f.length) next items r'; reached = r' }
 
 pub lex_stuck : (text : List ℕ) (at : ℕ) (modes : ModesAt) (tokens : List Token) (t : Bool) (kind : LexKind) → (t ≡ true → modes ≡ first_modes) → at < length text → Reached text at modes tokens → None ≡ read modes.mode t (take (length text - at) (drop at text)) → kind ≡ kind_at modes.mode (take (length text - at) (drop at text)) → IsFaultAt text at kind
@@ -271,14 +271,14 @@ order-less : (from at to : ℕ) (ts : List Token) → from ≤ at → InOrder at
 order-less from at to [] h k = omega arith
 order-less from at to (t ∷ ts) h k = let l = k.0 in (omega arith, k.1, k.2)
 
-order-from : (from to : ℕ) (modes : ModesAt) (xs : List Lexeme) (rest : List ℕ) (last : ModesAt) → from + length (spelled xs) ≤ to → Leads modes xs rest last → InOrder from to (tokens_from from xs)
+order-from : (from to : ℕ) (modes : ModesAt) (xs : List Lexeme) (rest : List ℕ) (last : ModesAt) → from + length (spellings xs) ≤ to → Leads modes xs rest last → InOrder from to (tokens_from from xs)
 order-from from to modes [] rest last h k = omega arith
-order-from from to modes (x ∷ xs) rest last h k = by_kind x.kind (order-from (from + length x.bytes) to (changed x.change modes) xs rest last (let l = length-append x.bytes (spelled xs) in omega arith) k.1)
+order-from from to modes (x ∷ xs) rest last h k = by_kind x.kind (order-from (from + length x.bytes) to (modes_after x.change modes) xs rest last (let l = length-append x.bytes (spellings xs) in omega arith) k.1)
   where
     by_kind : (o : Option TokenKind) → InOrder (from + length x.bytes) to (tokens_from (from + length x.bytes) xs) → InOrder from to (token_at from o (length x.bytes) ++ tokens_from (from + length x.bytes) xs)
     by_kind None more = order-less from (from + length x.bytes) to (tokens_from (from + length x.bytes) xs) (omega arith) more
     by_kind (Some kind) more =
-        let l = found_within modes.mode false (x.bytes ++ (spelled xs ++ rest)) (found_of x) (stands_found modes x (spelled xs ++ rest) false (λ i. absurd cc) k.0) in
+        let l = found_within modes.mode false (x.bytes ++ (spellings xs ++ rest)) (found_of x) (stands_found modes x (spellings xs ++ rest) false (λ i. absurd cc) k.0) in
         let some = l.0 in
         (omega arith, omega arith, more)
 

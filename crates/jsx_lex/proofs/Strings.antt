@@ -6,7 +6,7 @@ use Rattle.std.proofs.lemmas.List.Elements.{All-nil, All-cons, All-head, All-tai
 use Rattle.std.specs.List.{flat_map}
 use Rattle.jsx_lex.specs.Characters.{is_quote}
 use Rattle.jsx_lex.specs.StringParts.{StringPart, plain, escaped, unicode, spelling_of, IsPart}
-use Rattle.jsx_lex.specs.Reading.{shifted, part_at, string_len}
+use Rattle.jsx_lex.specs.Reading.{offset_by, part_at, string_len}
 use Rattle.jsx_lex.specs.declared.string.Part.{Part}
 use Rattle.jsx_lex.proofs.Scanning.{string_len-part}
 use Rattle.jsx_lex.proofs.Parts.{part_of, length-part_of, part_at-complete, FindsPart, part_at-sound}
@@ -32,8 +32,8 @@ string_len-complete quote (p ∷ ps) after q h =
     let more : string_len quote 0 rest ≡ Some (length (flat_map spelling_of ps) + 1) = string_len-complete quote ps after q (All-tail (IsPart quote) p ps h) in
     ap (λ (xs : List ℕ). string_len quote 0 xs) (append_assoc (spelling_of p) (flat_map spelling_of ps) (quote ∷ after))
     ∙ (string_len-part quote (spelling_of p ++ rest) (part_of p) found some within
-    ∙ (ap (λ (xs : List ℕ). shifted (part_of p).length (string_len quote 0 xs)) goes
-    ∙ (ap (λ (o : Option ℕ). shifted (part_of p).length o) more
+    ∙ (ap (λ (xs : List ℕ). offset_by (part_of p).length (string_len quote 0 xs)) goes
+    ∙ (ap (λ (o : Option ℕ). offset_by (part_of p).length o) more
     ∙ ap Some (rw (length-part_of p, length-append (spelling_of p) (flat_map spelling_of ps)) (omega arith)))))
 
 -- what is found: parts, and the quote
@@ -44,7 +44,7 @@ pub record FindsBody (quote : ℕ) (text : List ℕ) (n : ℕ) : Type 0 where
   pub split : text ≡ flat_map spelling_of parts ++ quote ∷ after
   pub length_is : n ≡ length (flat_map spelling_of parts) + 1
 
-some-shifted : (k : ℕ) (o : Option ℕ) (n : ℕ) → shifted k o ≡ Some n → (m : ℕ) × (o ≡ Some m) × (k + m ≡ n)
+some-shifted : (k : ℕ) (o : Option ℕ) (n : ℕ) → offset_by k o ≡ Some n → (m : ℕ) × (o ≡ Some m) × (k + m ≡ n)
 some-shifted k None n e = absurd cc
 some-shifted k (Some m) n e = (m, refl, cc)
 
@@ -67,7 +67,7 @@ string_len-sound zero quote (b ∷ bs) n h e = absurd (omega arith)
 string_len-sound (suc k) quote (b ∷ bs) n h e = by_quote (nat_eq b quote) refl (λ text. string_len-sound k quote text)
   where
     by_part : nat_eq b quote ≡ false → (o : Option Part) → part_at quote (b ∷ bs) ≡ o → ((text : List ℕ) (n : ℕ) → length text ≤ k → string_len quote 0 text ≡ Some n → FindsBody quote text n) → FindsBody quote (b ∷ bs) n
-    by_part q None o_is ih = let f : string_len quote 0 (b ∷ bs) ≡ None = cond-false (nat_eq b quote) (Some 1) (option_and_then (λ (r : Part). shifted 1 (string_len quote (r.length - 1) bs)) (part_at quote (b ∷ bs))) q ∙ ap (λ (o : Option Part). option_and_then (λ (r : Part). shifted 1 (string_len quote (r.length - 1) bs)) o) o_is in absurd cc
+    by_part q None o_is ih = let f : string_len quote 0 (b ∷ bs) ≡ None = cond-false (nat_eq b quote) (Some 1) (option_and_then (λ (r : Part). offset_by 1 (string_len quote (r.length - 1) bs)) (part_at quote (b ∷ bs))) q ∙ ap (λ (o : Option Part). option_and_then (λ (r : Part). offset_by 1 (string_len quote (r.length - 1) bs)) o) o_is in absurd cc
     by_part q (Some p) o_is ih =
         let f : FindsPart quote (b ∷ bs) p = part_at-sound quote (b ∷ bs) p o_is in
         let l : p.length ≡ length (spelling_of f.part) = ap (λ (x : Part). x.length) (sym f.part_is) ∙ length-part_of f.part in
@@ -75,7 +75,7 @@ string_len-sound (suc k) quote (b ∷ bs) n h e = by_quote (nat_eq b quote) refl
         let size : length (b ∷ bs) ≡ length (spelling_of f.part) + length f.more = ap length f.split ∙ length-append (spelling_of f.part) f.more in
         let within : p.length ≤ length (b ∷ bs) = omega arith in
         let goes : drop p.length (b ∷ bs) ≡ f.more = ap (λ (xs : List ℕ). drop p.length xs) f.split ∙ drop_at (spelling_of f.part) f.more p.length (sym l) in
-        let step : shifted p.length (string_len quote 0 f.more) ≡ Some n = ap (λ (xs : List ℕ). shifted p.length (string_len quote 0 xs)) (sym goes) ∙ (sym (string_len-part quote (b ∷ bs) p o_is some within) ∙ e) in
+        let step : offset_by p.length (string_len quote 0 f.more) ≡ Some n = ap (λ (xs : List ℕ). offset_by p.length (string_len quote 0 xs)) (sym goes) ∙ (sym (string_len-part quote (b ∷ bs) p o_is some within) ∙ e) in
         let m = some-shifted p.length (string_len quote 0 f.more) n step in
         one_part quote n m.0 (b ∷ bs) p f m.2 (ih f.more m.0 (omega arith) m.1)
 

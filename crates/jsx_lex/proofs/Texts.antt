@@ -8,9 +8,9 @@ use Rattle.std.proofs.lemmas.Bool.Decides.{nat_tests}
 use Rattle.std.proofs.lemmas.List.{append-nil, length-append, take_at, drop_at}
 use Rattle.std.proofs.lemmas.List.Elements.{All-nil, All-cons, All-append, All-head, All-tail}
 use Rattle.std.proofs.lemmas.Str.{IsUtf8-append, IsUtf8-encode}
-use Rattle.jsx_lex.specs.ModeStack.{ModesAt, first_modes, changed}
+use Rattle.jsx_lex.specs.ModeStack.{ModesAt, first_modes, modes_after}
 use Rattle.jsx_lex.specs.StringParts.{StringPart, plain, escaped, unicode, spelling_of, meaning_of, escape_value, hex_value, IsPart}
-use Rattle.jsx_lex.specs.Lexemes.{Lexeme, spelled, Leads}
+use Rattle.jsx_lex.specs.Lexemes.{Lexeme, spellings, Leads}
 use Rattle.jsx_lex.specs.TokenLists.{token_at, tokens_from, AreTokens}
 use Rattle.jsx_lex.specs.Meanings.{IsStringText}
 use Rattle.jsx_lex.specs.declared.token.Token.{Token}
@@ -26,26 +26,26 @@ one_text text from None word e u = All-nil (HasText text)
 one_text text from (Some k) word e u =
     All-cons (HasText text) (record { kind = k; from = from; to = from + length word }) [] (subst IsUtf8 (sym e) u) (All-nil (HasText text))
 
-texts_from : (front : List ℕ) (from : ℕ) (modes : ModesAt) (xs : List Lexeme) (rest : List ℕ) (last : ModesAt) → from ≡ length front → Leads modes xs rest last → IsUtf8 (spelled xs ++ rest) → All (HasText (front ++ (spelled xs ++ rest))) (tokens_from from xs)
+texts_from : (front : List ℕ) (from : ℕ) (modes : ModesAt) (xs : List Lexeme) (rest : List ℕ) (last : ModesAt) → from ≡ length front → Leads modes xs rest last → IsUtf8 (spellings xs ++ rest) → All (HasText (front ++ (spellings xs ++ rest))) (tokens_from from xs)
 texts_from front from modes [] rest last f h u = All-nil (HasText (front ++ ([] ++ rest)))
 texts_from front from modes (x ∷ xs) rest last f h u =
-    let text : List ℕ = front ++ (spelled (x ∷ xs) ++ rest) in
-    let inner : spelled (x ∷ xs) ++ rest ≡ x.bytes ++ (spelled xs ++ rest) = append_assoc x.bytes (spelled xs) rest in
-    let at_word : drop from text ≡ x.bytes ++ (spelled xs ++ rest) = drop_at front (spelled (x ∷ xs) ++ rest) from (sym f) ∙ inner in
+    let text : List ℕ = front ++ (spellings (x ∷ xs) ++ rest) in
+    let inner : spellings (x ∷ xs) ++ rest ≡ x.bytes ++ (spellings xs ++ rest) = append_assoc x.bytes (spellings xs) rest in
+    let at_word : drop from text ≡ x.bytes ++ (spellings xs ++ rest) = drop_at front (spellings (x ∷ xs) ++ rest) from (sym f) ∙ inner in
     let word : slice_range text from (from + length x.bytes) ≡ x.bytes =
-    ap (λ (zs : List ℕ). take ((from + length x.bytes) - from) zs) at_word ∙ take_at x.bytes (spelled xs ++ rest) ((from + length x.bytes) - from) (omega arith) in
-    let same : (front ++ x.bytes) ++ (spelled xs ++ rest) ≡ text = append_assoc front x.bytes (spelled xs ++ rest) ∙ ap (λ (zs : List ℕ). front ++ zs) (sym inner) in
+    ap (λ (zs : List ℕ). take ((from + length x.bytes) - from) zs) at_word ∙ take_at x.bytes (spellings xs ++ rest) ((from + length x.bytes) - from) (omega arith) in
+    let same : (front ++ x.bytes) ++ (spellings xs ++ rest) ≡ text = append_assoc front x.bytes (spellings xs ++ rest) ∙ ap (λ (zs : List ℕ). front ++ zs) (sym inner) in
     let l = length-append front x.bytes in
-    let c = cut_lexeme modes x (spelled xs ++ rest) h.0 (subst IsUtf8 inner u) in
+    let c = cut_lexeme modes x (spellings xs ++ rest) h.0 (subst IsUtf8 inner u) in
     All-append (HasText text) (token_at from x.kind (length x.bytes)) (tokens_from (from + length x.bytes) xs)
     (one_text text from x.kind x.bytes word c.0)
     (subst (λ (zs : List ℕ). All (HasText zs) (tokens_from (from + length x.bytes) xs)) same
-    (texts_from (front ++ x.bytes) (from + length x.bytes) (changed x.change modes) xs rest last (omega arith) h.1 c.1))
+    (texts_from (front ++ x.bytes) (from + length x.bytes) (modes_after x.change modes) xs rest last (omega arith) h.1 c.1))
 
 pub all_texts : (text : List ℕ) (tokens : List Token) → IsUtf8 text → AreTokens text tokens → All (λ (t : Token). IsUtf8 (slice_range text t.from t.to)) tokens
 all_texts text tokens u h =
-    let e : spelled h.lexemes ++ [] ≡ text = append-nil (spelled h.lexemes) ∙ sym h.split in
-    let w : All (HasText (spelled h.lexemes ++ [])) (tokens_from 0 h.lexemes) = texts_from [] 0 first_modes h.lexemes [] first_modes refl h.leads (subst IsUtf8 (sym e) u) in
+    let e : spellings h.lexemes ++ [] ≡ text = append-nil (spellings h.lexemes) ∙ sym h.split in
+    let w : All (HasText (spellings h.lexemes ++ [])) (tokens_from 0 h.lexemes) = texts_from [] 0 first_modes h.lexemes [] first_modes refl h.leads (subst IsUtf8 (sym e) u) in
     subst (λ (ts : List Token). All (HasText text) ts) (sym h.tokens_are) (subst (λ (zs : List ℕ). All (HasText zs) (tokens_from 0 h.lexemes)) e w)
 
 -- a character

@@ -1,8 +1,9 @@
 -- Where a text has no tokens: the first place at which no lexeme stands, and what is wrong there.
 use Rattle.std.specs.Prelude.{◌≡◌, ℕ, ◌==◌, if◌then◌else◌, List, [], ◌∷◌, ◌++◌, length, codes}
+use Rattle.fizz_text.specs.Ascii.{right_curly_bracket}
 use Rattle.jsx_lex.specs.Characters.{is_number_start, is_quote, begins}
 use Rattle.jsx_lex.specs.ModeStack.{ModesAt, first_modes}
-use Rattle.jsx_lex.specs.Lexemes.{Lexeme, BeginsWith, spelled, Leads}
+use Rattle.jsx_lex.specs.Lexemes.{Lexeme, BeginsWith, spellings, Leads}
 use Rattle.jsx_lex.specs.declared.mode.Mode.{Mode}
 use Rattle.jsx_lex.specs.declared.mode.Mode.TheVariants.{Code, Tag, Children, Close}
 use Rattle.jsx_lex.specs.declared.fault.LexKind.{LexKind}
@@ -20,7 +21,7 @@ kind_at Code (b ∷ bs) =
     if is_number_start b then Number
     else if is_quote b then Str
     else if begins (codes "/*") (b ∷ bs) then Comment
-    else if b == 125 then Brace
+    else if b == right_curly_bracket then Brace
     else Char
 kind_at Tag (b ∷ bs) = if is_quote b then Str else Char
 kind_at Children (b ∷ bs) = Bare
@@ -31,8 +32,8 @@ pub record IsFaultAt (text : List ℕ) (at : ℕ) (kind : LexKind) : Type 0 wher
   pub lexemes : List Lexeme
   pub rest : List ℕ
   pub modes : ModesAt
-  pub split : text ≡ spelled lexemes ++ rest
-  pub place : at ≡ length (spelled lexemes)
+  pub split : text ≡ spellings lexemes ++ rest
+  pub place : at ≡ length (spellings lexemes)
   pub leads : Leads first_modes lexemes rest modes
   pub stuck : (x : Lexeme) → BeginsWith modes x rest → ⊥
   pub unfinished : (rest ≡ []) × (modes ≡ first_modes) → ⊥

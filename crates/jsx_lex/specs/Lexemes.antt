@@ -2,7 +2,7 @@
 -- one of its mode and goes as far as it can. The mode is kept by all lexemes but certain signs.
 use Rattle.std.specs.Prelude.{◌≡◌, ◌≢◌, ℕ, ◌⊎◌, List, [], ◌∷◌, ◌++◌, Option, Some, None, codes}
 use Rattle.jsx_lex.specs.Characters.{is_name_part, is_tag_name_part, is_number_follower, is_jsx_text, Ends}
-use Rattle.jsx_lex.specs.ModeStack.{ModesAt, first_modes, changed}
+use Rattle.jsx_lex.specs.ModeStack.{ModesAt, first_modes, modes_after}
 use Rattle.jsx_lex.specs.SignTable.{row, signs_of, first_sign}
 use Rattle.jsx_lex.specs.Words.{IsSpace, IsLineComment, IsBlockComment, IsName, IsNumber, IsStr, IsTagStr, IsJsxText}
 use Rattle.jsx_lex.specs.declared.mode.Mode.{Mode}
@@ -53,11 +53,11 @@ pub record BeginsWith (modes : ModesAt) (x : Lexeme) (text : List ℕ) : Type 0 
   pub stands : Stands modes x after
 
 -- the bytes of lexemes in a row
-abbrev pub spelled : List Lexeme → List ℕ
-spelled [] = []
-spelled (x ∷ xs) = x.bytes ++ spelled xs
+abbrev pub spellings : List Lexeme → List ℕ
+spellings [] = []
+spellings (x ∷ xs) = x.bytes ++ spellings xs
 
 -- In front of the rest the lexemes stand in a row, and lead from the first modes to the last.
 abbrev pub Leads : ModesAt → List Lexeme → List ℕ → ModesAt → Type 0
 Leads modes [] rest last = modes ≡ last
-Leads modes (x ∷ xs) rest last = Stands modes x (spelled xs ++ rest) × Leads (changed x.change modes) xs rest last
+Leads modes (x ∷ xs) rest last = Stands modes x (spellings xs ++ rest) × Leads (modes_after x.change modes) xs rest last

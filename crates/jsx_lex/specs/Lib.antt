@@ -10,12 +10,11 @@ pub mod Reading
 pub mod Classes
 pub mod ModesView
 pub mod SignRows
-pub mod Punctuators
 pub mod TokenWords
-pub mod WordsOf
 pub mod References
 pub mod Cleaning
 pub mod Meanings
 pub mod ReferenceRows
 pub mod PartBytes
 pub mod LineJoining
+pub mod TokenMeanings

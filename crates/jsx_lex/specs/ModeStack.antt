@@ -21,8 +21,8 @@ left [] = first_modes
 left (m ∷ ms) = record { mode = m; around = ms }
 
 -- the modes after a sign
-abbrev pub changed : Change → ModesAt → ModesAt
-changed Keep modes = modes
-changed (Push m) modes = record { mode = m; around = modes.mode ∷ modes.around }
-changed (Turn m) modes = record { mode = m; around = modes.around }
-changed Pop modes = left modes.around
+abbrev pub modes_after : Change → ModesAt → ModesAt
+modes_after Keep modes = modes
+modes_after (Push m) modes = record { mode = m; around = modes.mode ∷ modes.around }
+modes_after (Turn m) modes = record { mode = m; around = modes.around }
+modes_after Pop modes = left modes.around

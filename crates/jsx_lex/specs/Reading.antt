@@ -5,6 +5,7 @@ use Rattle.std.specs.List.{prefix_len}
 use Rattle.std.specs.Char.{is_ascii_digit, is_digit}
 use lib.Utf8.{scalar}
 use Rattle.std.specs.Str.Parse.{digits_value}
+use Rattle.fizz_text.specs.Ascii.{asterisk, backslash, digit_0, hyphen, line_feed, slash, small_u}
 use Rattle.jsx_lex.specs.Characters.{is_space, is_name_start, is_name_part, is_tag_name_part, is_number_start, is_number_follower, is_quote, is_in_line, is_jsx_text, begins}
 use Rattle.jsx_lex.specs.SignTable.{SignRow, code_signs, tag_signs, children_signs, close_signs, first_sign}
 use Rattle.jsx_lex.specs.StringParts.{escape_value, hex_value}
@@ -19,8 +20,8 @@ use Rattle.jsx_lex.specs.declared.string.Meaning.{Meaning}
 use Rattle.jsx_lex.specs.declared.string.Meaning.TheVariants.{Byte, Character}
 
 -- a number of bytes, if any, and n more
-abbrev pub shifted : ℕ → Option ℕ → Option ℕ
-shifted n o = option_map (λ m. n + m) o
+abbrev pub offset_by : ℕ → Option ℕ → Option ℕ
+offset_by n o = option_map (λ m. n + m) o
 
 -- a lexeme of this kind and length, which keeps the mode
 abbrev pub found : Option TokenKind → ℕ → Found
@@ -51,35 +52,35 @@ unicode_at (a ∷ b ∷ c ∷ d ∷ more) = option_and_then character_part (hex_
 -- after a backslash
 abbrev pub escape_at : List ℕ → Option Part
 escape_at [] = None
-escape_at (c ∷ cs) = if c == 117 then unicode_at cs else option_map (λ v. part 2 (Byte v)) (escape_value c)
+escape_at (c ∷ cs) = if c == small_u then unicode_at cs else option_map (λ v. part 2 (Byte v)) (escape_value c)
 
 -- the part of a string at the front
 abbrev pub part_at : ℕ → List ℕ → Option Part
 part_at quote [] = None
 part_at quote (b ∷ bs) =
-    if b == quote || b == 10 then None
-    else if b == 92 then escape_at bs
+    if b == quote || b == line_feed then None
+    else if b == backslash then escape_at bs
     else Some (part 1 (Byte b))
 
 -- How many bytes there are up to the closing quote, and with it. The first `passed` belong to a part that was read.
 abbrev pub string_len : ℕ → ℕ → List ℕ → Option ℕ
 string_len quote passed [] = None
-string_len quote (suc passed) (b ∷ bs) = shifted 1 (string_len quote passed bs)
+string_len quote (suc passed) (b ∷ bs) = offset_by 1 (string_len quote passed bs)
 string_len quote zero (b ∷ bs) =
     if b == quote then Some 1
-    else option_and_then (λ (p : Part). shifted 1 (string_len quote (p.length - 1) bs)) (part_at quote (b ∷ bs))
+    else option_and_then (λ (p : Part). offset_by 1 (string_len quote (p.length - 1) bs)) (part_at quote (b ∷ bs))
 
 -- how many bytes there are up to the first `*/`, and with it
 abbrev pub comment_end : List ℕ → Option ℕ
 comment_end [] = None
-comment_end (b ∷ bs) = if begins (codes "*/") (b ∷ bs) then Some 2 else shifted 1 (comment_end bs)
+comment_end (b ∷ bs) = if begins (codes "*/") (b ∷ bs) then Some 2 else offset_by 1 (comment_end bs)
 
 -- the length of a comment after its first `/`
 abbrev pub comment_len : List ℕ → Option ℕ
 comment_len [] = None
 comment_len (c ∷ cs) =
-    if c == 47 then Some (2 + prefix_len is_in_line cs)
-    else if c == 42 then shifted 2 (comment_end cs)
+    if c == slash then Some (2 + prefix_len is_in_line cs)
+    else if c == asterisk then offset_by 2 (comment_end cs)
     else None
 
 -- the text's first character, if any, fails the test
@@ -90,7 +91,7 @@ ends test (b ∷ bs) = not (test b)
 -- the digits are a Number with a value from `least` on and before `past`, in front of what comes after them
 abbrev pub is_numeral : ℕ → ℕ → List ℕ → List ℕ → Bool
 is_numeral least past digits after =
-    (((nat_lt 0 (length digits) && (length digits == 1 || not (slice_index digits 0 == 48)))
+    (((nat_lt 0 (length digits) && (length digits == 1 || not (slice_index digits 0 == digit_0)))
     && nat_le least (digits_value 10 digits)) && nat_lt (digits_value 10 digits) past) && ends is_number_follower after
 
 abbrev pub digits_len : ℕ → ℕ → List ℕ → Option ℕ
@@ -101,7 +102,7 @@ digits_len least past text =
 abbrev pub number_len : List ℕ → Option ℕ
 number_len [] = None
 number_len (b ∷ bs) =
-    if b == 45 then shifted 1 (digits_len 1 (2 ^ 63 + 1) bs) else digits_len 0 (2 ^ 63) (b ∷ bs)
+    if b == hyphen then offset_by 1 (digits_len 1 (2 ^ 63 + 1) bs) else digits_len 0 (2 ^ 63) (b ∷ bs)
 
 -- a string of Tag after its first quote
 abbrev pub tag_string_len : ℕ → List ℕ → Option ℕ
@@ -116,7 +117,7 @@ read_code (b ∷ bs) =
     else if is_name_start b then Some (found (Some Name) (1 + prefix_len is_name_part bs))
     else if is_number_start b then option_map (λ n. found (Some Number) n) (number_len (b ∷ bs))
     else if is_quote b then option_map (λ n. found (Some Str) (1 + n)) (string_len b 0 bs)
-    else if b == 47 then option_map (λ n. found None n) (comment_len bs)
+    else if b == slash then option_map (λ n. found None n) (comment_len bs)
     else option_map found_sign (first_sign code_signs (b ∷ bs))
 
 abbrev pub read_tag : List ℕ → Option Found

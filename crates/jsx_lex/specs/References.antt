@@ -6,6 +6,7 @@ use Rattle.std.specs.Option.{option_map_or}
 use Rattle.std.specs.Char.{is_digit}
 use Rattle.std.specs.Str.Parse.{digits_value}
 use lib.Utf8.{scalar}
+use Rattle.fizz_text.specs.Ascii.{ampersand}
 use Rattle.jsx_lex.specs.Characters.{begins}
 
 -- the names, as they follow an `&`, with their characters. `nbsp` is the space that does not break, U+00A0.
@@ -38,13 +39,13 @@ reference_at text =
     else named_reference text
 
 -- The text with its references replaced. The first `passed` bytes belong to one that was replaced.
-abbrev pub decoded_after : ℕ → List ℕ → List ℕ
-decoded_after passed [] = []
-decoded_after (suc passed) (b ∷ bs) = decoded_after passed bs
-decoded_after zero (b ∷ bs) =
-    if b == 38
-    then option_map_or (λ (r : ℕ × ℕ). encode_utf8 r.0 ++ decoded_after (r.1 - 1) bs) (reference_at bs) (b ∷ decoded_after zero bs)
-    else b ∷ decoded_after zero bs
+abbrev pub decoded_text_after : ℕ → List ℕ → List ℕ
+decoded_text_after passed [] = []
+decoded_text_after (suc passed) (b ∷ bs) = decoded_text_after passed bs
+decoded_text_after zero (b ∷ bs) =
+    if b == ampersand
+    then option_map_or (λ (r : ℕ × ℕ). encode_utf8 r.0 ++ decoded_text_after (r.1 - 1) bs) (reference_at bs) (b ∷ decoded_text_after zero bs)
+    else b ∷ decoded_text_after zero bs
 
-abbrev pub decoded : List ℕ → List ℕ
-decoded text = decoded_after 0 text
+abbrev pub decoded_text : List ℕ → List ℕ
+decoded_text text = decoded_text_after 0 text

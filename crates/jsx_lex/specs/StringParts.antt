@@ -3,6 +3,7 @@
 use Rattle.std.specs.Prelude.{◌≢◌, ℕ, ◌==◌, if◌then◌else◌, List, [], ◌∷◌, Option, Some, None, unwrap_or, encode_utf8, IsSome}
 use Rattle.std.specs.Str.Parse.{digits_value, AllDigits}
 use Rattle.std.specs.Char.{IsScalar}
+use Rattle.fizz_text.specs.Ascii.{apostrophe, backslash, carriage_return, line_feed, quotation_mark, small_n, small_r, small_t, small_u, tab}
 
 -- a byte that stands for itself; a backslash with a letter or a sign; `\u` with four hexadecimal digits
 pub data StringPart : Type 0 where
@@ -12,18 +13,18 @@ pub data StringPart : Type 0 where
 
 abbrev pub spelling_of : StringPart → List ℕ
 spelling_of (plain b) = b ∷ []
-spelling_of (escaped c) = 92 ∷ c ∷ []
-spelling_of (unicode a b c d) = 92 ∷ 117 ∷ a ∷ b ∷ c ∷ d ∷ []
+spelling_of (escaped c) = backslash ∷ c ∷ []
+spelling_of (unicode a b c d) = backslash ∷ small_u ∷ a ∷ b ∷ c ∷ d ∷ []
 
 -- what `\\`, `\"`, `\'`, `\n`, `\r` and `\t` stand for
 abbrev pub escape_value : ℕ → Option ℕ
 escape_value c =
-    if c == 92 then Some 92
-    else if c == 34 then Some 34
-    else if c == 39 then Some 39
-    else if c == 110 then Some 10
-    else if c == 114 then Some 13
-    else if c == 116 then Some 9
+    if c == backslash then Some backslash
+    else if c == quotation_mark then Some quotation_mark
+    else if c == apostrophe then Some apostrophe
+    else if c == small_n then Some line_feed
+    else if c == small_r then Some carriage_return
+    else if c == small_t then Some tab
     else None
 
 abbrev pub hex_value : ℕ → ℕ → ℕ → ℕ → ℕ

@@ -1,7 +1,7 @@
 -- Which tokens a text has.
 use Rattle.std.specs.Prelude.{◌≡◌, ℕ, ◌+◌, ◌<◌, ◌≤◌, List, [], ◌∷◌, ◌++◌, length, Option, Some, None}
 use Rattle.jsx_lex.specs.ModeStack.{first_modes}
-use Rattle.jsx_lex.specs.Lexemes.{Lexeme, spelled, Leads}
+use Rattle.jsx_lex.specs.Lexemes.{Lexeme, spellings, Leads}
 use Rattle.jsx_lex.specs.declared.token.Token.{Token}
 use Rattle.jsx_lex.specs.declared.token.TokenKind.{TokenKind}
 
@@ -18,7 +18,7 @@ tokens_from from (x ∷ xs) = token_at from x.kind (length x.bytes) ++ tokens_fr
 -- The text is a row of lexemes from the first Code back to the first Code, and these are its tokens.
 pub record AreTokens (text : List ℕ) (tokens : List Token) : Type 0 where
   pub lexemes : List Lexeme
-  pub split : text ≡ spelled lexemes
+  pub split : text ≡ spellings lexemes
   pub leads : Leads first_modes lexemes [] first_modes
   pub tokens_are : tokens ≡ tokens_from 0 lexemes
 

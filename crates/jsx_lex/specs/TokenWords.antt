@@ -1,8 +1,7 @@
 -- The form of a token's bytes, by its kind.
-use Rattle.std.specs.Prelude.{◌≡◌, ℕ, true, is_some, List}
+use Rattle.std.specs.Prelude.{◌<◌, ℕ, List, length}
 use Rattle.jsx_lex.specs.Characters.{is_tag_name_part}
 use Rattle.jsx_lex.specs.Words.{IsName, IsNumber, IsStr, IsTagStr, IsJsxText}
-use Rattle.jsx_lex.specs.Punctuators.{punctuator_of}
 use Rattle.jsx_lex.specs.declared.token.TokenKind.{TokenKind}
 use Rattle.jsx_lex.specs.declared.token.TokenKind.TheVariants.{Name, Number, Str, TagStr, JsxText, Sign}
 
@@ -13,4 +12,4 @@ IsWord Number word = IsNumber word
 IsWord Str word = IsStr word
 IsWord TagStr word = IsTagStr word
 IsWord JsxText word = IsJsxText word
-IsWord Sign word = is_some (punctuator_of word) ≡ true
+IsWord Sign word = 0 < length word

@@ -3,6 +3,7 @@ use Rattle.std.specs.Prelude.{◌≡◌, ℕ, ◌^◌, ◌<◌, ◌≤◌, Bool,
 use Rattle.std.specs.List.{flat_map, list_all}
 use Rattle.std.specs.Char.{is_ascii_digit}
 use Rattle.std.specs.Str.Parse.{digits_value}
+use Rattle.fizz_text.specs.Ascii.{asterisk, slash}
 use Rattle.jsx_lex.specs.Characters.{is_space, is_name_start, is_quote, is_in_line, is_jsx_text, Ends, begins}
 use Rattle.jsx_lex.specs.StringParts.{StringPart, spelling_of, IsPart}
 
@@ -15,7 +16,7 @@ IsSpace (b ∷ c ∷ bs) = ⊥
 -- `//` and what follows in its line
 pub record IsLineComment (word after : List ℕ) : Type 0 where
   pub body : List ℕ
-  pub spelled : word ≡ 47 ∷ 47 ∷ body
+  pub spelled : word ≡ slash ∷ slash ∷ body
   pub in_line : list_all is_in_line body ≡ true
   pub longest : Ends is_in_line after
 
@@ -27,7 +28,7 @@ has_comment_end (b ∷ bs) = begins (codes "*/") (b ∷ bs) || has_comment_end b
 -- `/*`, and everything up to the next `*/`
 pub record IsBlockComment (word : List ℕ) : Type 0 where
   pub body : List ℕ
-  pub spelled : word ≡ 47 ∷ 42 ∷ (body ++ 42 ∷ 47 ∷ [])
+  pub spelled : word ≡ slash ∷ asterisk ∷ (body ++ asterisk ∷ slash ∷ [])
   pub first_end : has_comment_end body ≡ false
 
 -- a letter, `_` or `$`, and characters of the test

@@ -1,7 +1,7 @@
 //! The layout of the source in the text between tags.
 
 ghost use Rattle.std.specs.Prelude.{◌≡◌, OnOk, IfOk, if◌then◌else◌};
-ghost use Rattle.jsx_lex.specs.Cleaning.{cleaned, without_leading_blanks, without_trailing_blanks};
+ghost use Rattle.jsx_lex.specs.Cleaning.{clean_text, without_leading_blanks, without_trailing_blanks};
 ghost use Rattle.jsx_lex.specs.LineJoining.{with_line};
 
 use crate::characters::{Class, is_blank, run_len};
@@ -9,7 +9,7 @@ use std::alloc::{AllocError, Global};
 
 /// The text without the line breaks and blanks that only lay out the source.
 pub(crate) fn clean(alloc: Global, text: &[u8]) -> Result<Vec<u8>, AllocError>
-    ensures { IfOk result (λ v. v.items ≡ cleaned text.now) }
+    ensures { IfOk result (λ v. v.items ≡ clean_text text.now) }
 {
     let mut out = Vec::new(alloc);
     let mut rest = text;

@@ -7,39 +7,39 @@ ghost use Rattle.jsx_lex.specs.FaultTable.{IsFaultAt};
 ghost use Rattle.jsx_lex.specs.Meanings.{IsStringText};
 ghost use Rattle.jsx_lex.specs.declared.token.Token.{Token};
 ghost use Rattle.jsx_lex.specs.declared.fault.LexKind.{LexKind};
-ghost use Rattle.jsx_lex.specs.declared.word.Word.{Word};
-ghost use Rattle.jsx_lex.specs.WordsOf.{AreWordsOf};
 
 /// A text has one list of tokens at most.
 pub fn one_token_list()
-    ensures { (text : List ℕ) (tokens others : List Token) → AreTokens text tokens → AreTokens text others → tokens ≡ others }
+    ensures { (text : List ℕ) (tokens others : List Token) →
+        AreTokens text tokens → AreTokens text others → tokens ≡ others }
 {}
 
 /// A text has one place and kind of a fault at most.
 pub fn one_fault()
-    ensures { (text : List ℕ) (at place : ℕ) (kind other : LexKind) → IsFaultAt text at kind → IsFaultAt text place other → (at ≡ place) × (kind ≡ other) }
+    ensures { (text : List ℕ) (at place : ℕ) (kind other : LexKind) →
+        IsFaultAt text at kind → IsFaultAt text place other → (at ≡ place) × (kind ≡ other) }
 {}
 
 /// A text has tokens or a fault, and never both.
 pub fn tokens_or_fault()
-    ensures one { (text : List ℕ) → ((tokens : List Token) × AreTokens text tokens) ⊎ ((at : ℕ) × (kind : LexKind) × IsFaultAt text at kind) }
-    ensures not_both { (text : List ℕ) (tokens : List Token) (at : ℕ) (kind : LexKind) → AreTokens text tokens → IsFaultAt text at kind → ⊥ }
+    ensures one { (text : List ℕ) → ((tokens : List Token) × AreTokens text tokens)
+        ⊎ ((at : ℕ) × (kind : LexKind) × IsFaultAt text at kind) }
+    ensures not_both { (text : List ℕ) (tokens : List Token) (at : ℕ) (kind : LexKind) →
+        AreTokens text tokens → IsFaultAt text at kind → ⊥ }
 {}
 
 /// The tokens of a text stand in order within it. Each has the form of its kind, and is UTF-8 where the text is.
 pub fn token_words()
-    ensures in_order { (text : List ℕ) (tokens : List Token) → AreTokens text tokens → InOrder 0 (length text) tokens }
-    ensures words { (text : List ℕ) (tokens : List Token) → AreTokens text tokens → All (λ t. IsWord t.kind (slice_range text t.from t.to)) tokens }
-    ensures utf8 { (text : List ℕ) (tokens : List Token) → IsUtf8 text → AreTokens text tokens → All (λ t. IsUtf8 (slice_range text t.from t.to)) tokens }
+    ensures in_order { (text : List ℕ) (tokens : List Token) →
+        AreTokens text tokens → InOrder 0 (length text) tokens }
+    ensures words { (text : List ℕ) (tokens : List Token) → AreTokens text tokens →
+        All (λ t. IsWord t.kind (slice_range text t.from t.to)) tokens }
+    ensures utf8 { (text : List ℕ) (tokens : List Token) → IsUtf8 text → AreTokens text tokens →
+        All (λ t. IsUtf8 (slice_range text t.from t.to)) tokens }
 {}
 
 /// A `Str` has one text.
 pub fn one_string_text()
-    ensures { (word text other : List ℕ) → IsStringText word text → IsStringText word other → text ≡ other }
-{}
-
-/// Tokens have one list of words.
-pub fn one_word_list()
-    ensures { (text : List ℕ) (tokens : List Token) (words others : List Word) →
-        AreWordsOf text tokens words → AreWordsOf text tokens others → words ≡ others }
+    ensures { (word text other : List ℕ) →
+        IsStringText word text → IsStringText word other → text ≡ other }
 {}

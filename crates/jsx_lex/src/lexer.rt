@@ -22,7 +22,8 @@ pub fn lex(alloc: Global, text: &[u8]) -> Result<Vec<Token>, LexFault>
     ensures refused { IfErr result (HasCause text.now) }
 
     // A text that has tokens is refused only for want of memory.
-    ensures only { (tokens : List Token) → AreTokens text.now tokens → MatchResult result (λ v. v.items ≡ tokens) (λ e. e ≡ OutOfMemory) }
+    ensures only { (tokens : List Token) → AreTokens text.now tokens →
+        MatchResult result (λ v. v.items ≡ tokens) (λ e. e ≡ OutOfMemory) }
 {
     let mut tokens = Vec::new(alloc);
     let mut modes = Modes::new(alloc);
@@ -52,7 +53,8 @@ pub fn lex(alloc: Global, text: &[u8]) -> Result<Vec<Token>, LexFault>
 /// Puts the token that was found at a place, if it is one, at the end.
 fn push_token(tokens: &mut Vec<Token>, from: usize, found: Found) -> Result<(), AllocError>
     requires { from + found.length < 2 ^ 64 }
-    ensures { OnOk result (tokens.new.items ≡ tokens.old.items ++ token_at from found.kind found.length) }
+    ensures { OnOk result (tokens.new.items
+        ≡ tokens.old.items ++ token_at from found.kind found.length) }
 {
     if let Some(kind) = found.kind {
         tokens.push(Token {

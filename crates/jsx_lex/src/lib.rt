@@ -24,9 +24,7 @@ mod token;
 mod word;
 
 pub use fault::{LexFault, LexKind};
-pub use laws::{
-    one_fault, one_string_text, one_token_list, one_word_list, token_words, tokens_or_fault,
-};
+pub use laws::{one_fault, one_string_text, one_token_list, token_words, tokens_or_fault};
 pub use lexer::lex;
 pub use meaning::{decode_string, decode_tag_string, decode_text, number_value};
 pub use mode::{Change, Mode};

@@ -2,7 +2,7 @@
 
 ghost use Rattle.std.specs.Prelude.{◌≡◌, ◌<◌, ◌≤◌, ◌^◌, IfOk, IsUtf8, pos, neg_ℤ};
 ghost use Rattle.jsx_lex.specs.Words.{IsNumber, IsStr, IsTagStr};
-ghost use Rattle.jsx_lex.specs.Meanings.{number_of, IsStringText, tag_text_of, jsx_text_of};
+ghost use Rattle.jsx_lex.specs.Meanings.{number_of, string_text_of, IsStringText, tag_text_of, jsx_text_of};
 
 use crate::clean::clean;
 use crate::number::value_of;
@@ -34,6 +34,7 @@ fn negated(value: u64) -> i64
 pub fn decode_string(alloc: Global, word: &[u8]) -> Result<Vec<u8>, AllocError>
     requires { IsStr word.now }
     ensures text { IfOk result (λ v. IsStringText word.now v.items) }
+    ensures read { IfOk result (λ v. v.items ≡ string_text_of word.now) }
     ensures utf8 { IsUtf8 word.now → IfOk result (λ v. IsUtf8 v.items) }
 {
     let mut out = Vec::new(alloc);

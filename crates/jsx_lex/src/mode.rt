@@ -1,7 +1,7 @@
 //! The modes of the lexer.
 
 ghost use Rattle.std.specs.Prelude.{◌≡◌, ◌↔◌, [], reverse, OnOk, IsTrue};
-ghost use Rattle.jsx_lex.specs.ModeStack.{ModesAt, first_modes, changed};
+ghost use Rattle.jsx_lex.specs.ModeStack.{ModesAt, first_modes, modes_after};
 
 use std::alloc::{AllocError, Global};
 
@@ -60,7 +60,7 @@ impl Modes {
 
     /// Goes on to the modes after a sign.
     pub(crate) fn change(&mut self, change: Change) -> Result<(), AllocError>
-        ensures { OnOk result (modes_of self.new ≡ changed change (modes_of self.old)) }
+        ensures { OnOk result (modes_of self.new ≡ modes_after change (modes_of self.old)) }
     {
         match change {
             Change::Keep => {}

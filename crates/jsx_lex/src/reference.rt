@@ -72,7 +72,8 @@ fn named_reference(rest: &[u8]) -> Option<(char, usize)>
 /// The character of the first of the names with which the text begins.
 fn first_name(names: &[ReferenceName], rest: &[u8]) -> Option<(char, usize)>
     ensures within { IfSome result (λ r. (0 < r.1) × (r.1 ≤ 1 + length rest.now)) }
-    ensures found { result ≡ option_map (λ (r : List ℕ × ℕ). (r.1, 1 + length r.0)) (find (λ (r : List ℕ × ℕ). begins r.0 rest.now) (map row_of names.now)) }
+    ensures found { result ≡ option_map (λ (r : List ℕ × ℕ). (r.1, 1 + length r.0))
+        (find (λ (r : List ℕ × ℕ). begins r.0 rest.now) (map row_of names.now)) }
 {
     for name in names {
         if rest.starts_with(name.bytes) {
@@ -117,7 +118,8 @@ fn character_of(radix: u32, digits: &[u8]) -> Option<char>
     requires some { 0 < length digits.now }
     requires radix { (radix ≡ 10) ⊎ (radix ≡ 16) }
     requires digits { AllDigits radix digits.now }
-    ensures { result ≡ (if scalar (digits_value radix digits.now) then Some (digits_value radix digits.now) else None) }
+    ensures { result ≡ (if scalar (digits_value radix digits.now)
+        then Some (digits_value radix digits.now) else None) }
 {
     let Ok(text) = str::from_utf8(digits) else {
         return None;
@@ -139,7 +141,7 @@ pub(crate) fn push_character(out: &mut Vec<u8>, character: char) -> Result<(), A
 
 /// Puts a text at the end, with its references replaced.
 pub(crate) fn push_decoded(out: &mut Vec<u8>, text: &[u8]) -> Result<(), AllocError>
-    ensures { OnOk result (out.new.items ≡ out.old.items ++ spec.decoded text.now) }
+    ensures { OnOk result (out.new.items ≡ out.old.items ++ spec.decoded_text text.now) }
 {
     let mut at = 0;
     'characters: while at < text.len() {
@@ -151,7 +153,8 @@ pub(crate) fn push_decoded(out: &mut Vec<u8>, text: &[u8]) -> Result<(), AllocEr
 /// Puts the reference or the byte at the front at the end, and says how many bytes it took.
 fn push_next(out: &mut Vec<u8>, rest: &[u8]) -> Result<usize, AllocError>
     requires { 0 < length rest.now }
-    ensures next { IfOk result (λ n. out.old.items ++ spec.decoded rest.now ≡ out.new.items ++ spec.decoded (drop n rest.now)) }
+    ensures next { IfOk result (λ n. out.old.items ++ spec.decoded_text rest.now
+        ≡ out.new.items ++ spec.decoded_text (drop n rest.now)) }
     ensures within { IfOk result (λ n. (0 < n) × (n ≤ length rest.now)) }
 {
     if rest[0] == b'&' {

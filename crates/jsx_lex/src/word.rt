@@ -1,14 +1,13 @@
 //! What a token says to a parser.
 
-ghost use Rattle.std.specs.Prelude.{◌≡◌, ◌<◌, ◌≤◌, IfOk, IsUtf8, length, slice_range};
+ghost use Rattle.std.specs.Prelude.{◌≡◌, ◌≤◌, IfOk, IsUtf8, length, slice_range};
+ghost use Rattle.jsx_lex.specs.TokenMeanings.{punctuator_of, word_at};
 ghost use Rattle.jsx_lex.specs.TokenWords.{IsWord};
-ghost use Rattle.jsx_lex.specs.WordsOf.{IsWordOf, Says};
-ghost use Rattle.jsx_lex.specs.Punctuators.{punctuator_of};
 
 use crate::meaning::{decode_string, decode_tag_string, decode_text, number_value};
 use crate::token::{Token, TokenKind};
-use fizz_text::Text;
-use std::alloc::{AllocError, Global};
+use fizz_text::{OutOfMemory, Text};
+use std::alloc::Global;
 
 /// A token with its meaning: the text of a string or between tags is decoded, and a number is its value.
 #[derive(Debug, Drop)]
@@ -74,39 +73,41 @@ pub enum Punctuator {
     LessSlash,
 }
 
-/// The mark that the bytes are.
-fn punctuator_of(bytes: &[u8]) -> Option<Punctuator>
-    ensures { result ≡ punctuator_of bytes.now }
+/// The word of a token of a text.
+pub fn word_of(alloc: Global, text: &[u8], token: Token) -> Result<Word, OutOfMemory>
+    requires ordered { token.from ≤ token.to }
+    requires within { token.to ≤ length text.now }
+    requires form { IsWord token.kind (slice_range text.now token.from token.to) }
+    requires utf8 { IsUtf8 (slice_range text.now token.from token.to) }
+    ensures { IfOk result (λ word. word ≡ word_at text.now token) }
 {
-    match bytes {
-        b"===" => Some(Punctuator::StrictEqual),
-        b"!==" => Some(Punctuator::StrictNotEqual),
-        b"=>" => Some(Punctuator::Arrow),
-        b"&&" => Some(Punctuator::AndAnd),
-        b"||" => Some(Punctuator::OrOr),
-        b"{" => Some(Punctuator::OpenBrace),
-        b"}" => Some(Punctuator::CloseBrace),
-        b"(" => Some(Punctuator::OpenParen),
-        b")" => Some(Punctuator::CloseParen),
-        b"[" => Some(Punctuator::OpenBracket),
-        b"]" => Some(Punctuator::CloseBracket),
-        b"," => Some(Punctuator::Comma),
-        b";" => Some(Punctuator::Semicolon),
-        b":" => Some(Punctuator::Colon),
-        b"." => Some(Punctuator::Dot),
-        b"?" => Some(Punctuator::Question),
-        b"!" => Some(Punctuator::Not),
-        b"=" => Some(Punctuator::Assign),
-        b"+" => Some(Punctuator::Plus),
-        b"<" => Some(Punctuator::Less),
-        b">" => Some(Punctuator::Greater),
-        b"/>" => Some(Punctuator::SlashGreater),
-        b"</" => Some(Punctuator::LessSlash),
-        _ => None,
+    let bytes = &text[token.from..token.to];
+    match token.kind {
+        TokenKind::Name => {
+            let name = Vec::from_slice(alloc, bytes)?;
+            Ok(Word::Name {
+                text: text_of(name),
+                at: token.from,
+            })
+        }
+        TokenKind::Number => Ok(Word::Number(number_value(bytes))),
+        TokenKind::Str => {
+            let string = decode_string(alloc, bytes)?;
+            Ok(Word::Text(text_of(string)))
+        }
+        TokenKind::TagStr => {
+            let string = decode_tag_string(alloc, bytes)?;
+            Ok(Word::Text(text_of(string)))
+        }
+        TokenKind::JsxText => {
+            let text = decode_text(alloc, bytes)?;
+            Ok(Word::JsxText(text_of(text)))
+        }
+        TokenKind::Sign => Ok(Word::Sign(punctuator_of(bytes))),
     }
 }
 
-/// The text of bytes that are UTF-8.
+/// Bytes that are UTF-8, as a text.
 fn text_of(bytes: Vec<u8>) -> Text
     requires { IsUtf8 bytes.items }
     ensures { result ≡ bytes.items }
@@ -114,32 +115,34 @@ fn text_of(bytes: Vec<u8>) -> Text
     Text::from_bytes(bytes).unwrap()
 }
 
-/// The word of a token that `lex` gave for this text, which is UTF-8.
-pub fn word_of(alloc: Global, text: &[u8], token: &Token) -> Result<Word, AllocError>
-    requires order { token.now.from ≤ token.now.to }
-    requires within { token.now.to ≤ length text.now }
-    requires form { IsWord token.now.kind (slice_range text.now token.now.from token.now.to) }
-    requires utf8 { IsUtf8 (slice_range text.now token.now.from token.now.to) }
-    ensures { IfOk result (λ w. IsWordOf text.now token.now w) }
+/// The mark that is spelled so; `<` where it is none of the others.
+#[tactic(auto, unfolding(crate::specs::TokenMeanings::punctuator_rows))]
+fn punctuator_of(bytes: &[u8]) -> Punctuator
+    ensures { result ≡ punctuator_of bytes.now }
 {
-    word_from(alloc, token.kind, &text[token.from..token.to], token.from)
-}
-
-/// The word of a token by its kind, bytes and place.
-fn word_from(alloc: Global, kind: TokenKind, bytes: &[u8], at: usize) -> Result<Word, AllocError>
-    requires form { IsWord kind bytes.now }
-    requires utf8 { IsUtf8 bytes.now }
-    ensures { IfOk result (λ w. Says kind bytes.now at w) }
-{
-    match kind {
-        TokenKind::Name => Ok(Word::Name {
-            text: text_of(Vec::from_slice(alloc, bytes)?),
-            at,
-        }),
-        TokenKind::Number => Ok(Word::Number(number_value(bytes))),
-        TokenKind::Str => Ok(Word::Text(text_of(decode_string(alloc, bytes)?))),
-        TokenKind::TagStr => Ok(Word::Text(text_of(decode_tag_string(alloc, bytes)?))),
-        TokenKind::JsxText => Ok(Word::JsxText(text_of(decode_text(alloc, bytes)?))),
-        TokenKind::Sign => Ok(Word::Sign(punctuator_of(bytes).unwrap())),
+    match bytes {
+        b"===" => Punctuator::StrictEqual,
+        b"!==" => Punctuator::StrictNotEqual,
+        b"=>" => Punctuator::Arrow,
+        b"&&" => Punctuator::AndAnd,
+        b"||" => Punctuator::OrOr,
+        b"{" => Punctuator::OpenBrace,
+        b"}" => Punctuator::CloseBrace,
+        b"(" => Punctuator::OpenParen,
+        b")" => Punctuator::CloseParen,
+        b"[" => Punctuator::OpenBracket,
+        b"]" => Punctuator::CloseBracket,
+        b"," => Punctuator::Comma,
+        b";" => Punctuator::Semicolon,
+        b":" => Punctuator::Colon,
+        b"." => Punctuator::Dot,
+        b"?" => Punctuator::Question,
+        b"!" => Punctuator::Not,
+        b"=" => Punctuator::Assign,
+        b"+" => Punctuator::Plus,
+        b">" => Punctuator::Greater,
+        b"/>" => Punctuator::SlashGreater,
+        b"</" => Punctuator::LessSlash,
+        _ => Punctuator::Less,
     }
 }

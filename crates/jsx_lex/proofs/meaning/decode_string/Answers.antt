@@ -1,6 +1,7 @@
 use Rattle.std.proofs.Common.{refl, get_or}
 use Rattle.jsx_lex.proofs.Texts.{string_utf8}
 use Rattle.jsx_lex.proofs.StringDecoding.{decodes-first, decodes-more, decodes-end}
+use Rattle.jsx_lex.proofs.StringTextLemmas.{string_text_of-is}
 use Rattle.jsx_lex.proofs.meaning.decode_string.Goals as goal
 
 pub parts-init : goal.parts-init
@@ -14,3 +15,6 @@ returns-clause-text c = decodes-end c.args.word.now c.args.word.now (get_or c.ar
 
 pub returns-clause-utf8 : goal.returns-clause-utf8
 returns-clause-utf8 c = λ u. string_utf8 c.args.word.now c.parts.out.items (returns-clause-text c) u
+
+pub returns-clause-read : goal.returns-clause-read
+returns-clause-read c = string_text_of-is c.args.word.now c.parts.out.items (returns-clause-text c)

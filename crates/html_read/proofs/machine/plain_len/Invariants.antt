@@ -1,0 +1,7 @@
+use Rattle.std.proofs.Common.{◌≡◌, ◌+◌, drop}
+use Rattle.html_read.specs.Machine.{is_plain, prefix_len}
+use Rattle.html_read.proofs.machine.plain_len.Given as goal
+
+-- what is left gives the rest of the length
+abbrev pub invariant-loop-len : goal.invariant-loop-len
+invariant-loop-len l = l.len + prefix_len is_plain (drop l.len l.bytes) ≡ prefix_len is_plain l.bytes
