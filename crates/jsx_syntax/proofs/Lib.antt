@@ -4,3 +4,4 @@ pub mod Closings
 pub mod Sound
 pub mod Alive
 pub mod Reading
+pub mod ParseLemmas

@@ -48,7 +48,7 @@ one_file words file_ other s t =
     ap (λ (cs : List Component). record { components = cs })
     (same_components file_.components other.components (sym (run-file words file_ s) ∙ run-file words other t))
 
-run-append : (m_ : Moved) (xs ys : List Word) → run m_ (xs ++ ys) ≡ run (run m_ xs) ys
+pub run-append : (m_ : Moved) (xs ys : List Word) → run m_ (xs ++ ys) ≡ run (run m_ xs) ys
 run-append (Err wanted_) xs ys = refl
 run-append (Ok state) [] ys = refl
 run-append (Ok state) (x ∷ xs) ys = run-append (steps.step state x) xs ys
@@ -105,7 +105,7 @@ refused-dead before word state wanted_ h e_ more file_ s =
     ∙ sym (run-append (Ok first_state) before (word ∷ more))
     ∙ run-file (before ++ word ∷ more) file_ s)
 
-abbrev IsFile : Position → Type 0
+abbrev pub IsFile : Position → Type 0
 IsFile (position.Outside (o.File components)) = Unit {0}
 IsFile _ = ⊥
 

@@ -5,3 +5,5 @@ pub mod WordTests
 pub mod Steps
 pub mod Refusals
 pub mod Examples
+pub mod Parsing
+pub mod Advances

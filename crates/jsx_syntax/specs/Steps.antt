@@ -20,6 +20,8 @@ use Rattle.jsx_syntax.specs.declared.file.Stmt.{Stmt}
 use Rattle.jsx_syntax.specs.declared.file.Stmt.TheVariants as s
 use Rattle.jsx_syntax.specs.declared.fault.Wanted.{Wanted}
 use Rattle.jsx_syntax.specs.declared.fault.Wanted.TheVariants as wanted
+use Rattle.jsx_syntax.specs.declared.fault.SyntaxFault.{SyntaxFault}
+use Rattle.jsx_syntax.specs.declared.fault.SyntaxFault.TheVariants.{Bad, OutOfMemory as NoMemory}
 use Rattle.jsx_syntax.specs.declared.fault.Stop.{Stop}
 use Rattle.jsx_syntax.specs.declared.fault.Stop.TheVariants.{Refused, OutOfMemory}
 use Rattle.jsx_syntax.specs.declared.state.Signature.{Signature}
@@ -62,6 +64,10 @@ Stops answer OutOfMemory = Unit {0}
 abbrev pub Gives : {A : Type 0} → Result A Wanted → Result A Stop → Type 0
 Gives answer (Ok x) = answer ≡ Ok x
 Gives answer (Err stop) = Stops answer stop
+
+abbrev pub fault_at : Stop → ℕ → SyntaxFault
+fault_at (Refused wanted_) place = Bad place wanted_
+fault_at OutOfMemory place = NoMemory
 
 abbrev pub outside : Outside → List Frame → State
 outside x stack = record { position = at_.Outside x; stack = stack }

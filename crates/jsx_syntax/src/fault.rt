@@ -4,6 +4,7 @@ ghost use Rattle.std.specs.Prelude.{◌≡◌};
 ghost use Rattle.jsx_syntax.specs.declared.fault.SyntaxFault.TheVariants.{OutOfMemory as Memory};
 ghost use Rattle.jsx_syntax.specs.declared.fault.Stop.TheVariants.{OutOfMemory as NoMemory};
 
+use fizz_text::OutOfMemory as NoMemoryLeft;
 use std::alloc::{AllocError, AllocFailed};
 use thiserror::Error;
 
@@ -32,6 +33,14 @@ pub enum SyntaxFault {
     /// No memory was left.
     #[error("out of memory")]
     OutOfMemory,
+}
+
+impl From<NoMemoryLeft> for SyntaxFault {
+    ghost from_gives = { λ _ e. e ≡ Memory };
+
+    fn from(_error: NoMemoryLeft) -> SyntaxFault {
+        SyntaxFault::OutOfMemory
+    }
 }
 
 impl From<AllocError> for SyntaxFault {
