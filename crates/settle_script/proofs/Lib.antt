@@ -1,1 +1,2 @@
 mod SettlementsLemmas
+mod ScriptsLemmas

@@ -29,3 +29,8 @@ first_common outcomes (entry ∷ later) =
 abbrev pub IsFirstCommon : List (Entry Outcome) → List (Entry Outcome) → JoinFault → Type 0
 IsFirstCommon outcomes more (AlreadySettled name) = first_common outcomes more ≡ Some name
 IsFirstCommon outcomes more OutOfMemory = Unit {0}
+
+-- for private functions: the name of the settlement, if there is one, is settled by none of these
+abbrev pub IsNew : Option (Entry Outcome) → List (Entry Outcome) → Type 0
+IsNew (Some settlement) outcomes = entry_named settlement.name outcomes ≡ None
+IsNew None outcomes = Unit {0}

@@ -1,8 +1,8 @@
 //! What settlements make known.
 
 ghost use Rattle.std.specs.Prelude.{◌≡◌, ◌+◌, ◌<◌, ◌^◌, ◌++◌, ◌∷◌, [], length, is_some, None, IfOk, IfErr, OnOk, OnErr};
-ghost use Rattle.std.specs.Option.{option_copied};
-ghost use Rattle.settle_script.specs.Settlements.{HasDistinctNames};
+ghost use Rattle.std.specs.Option.{option_copied, option_to_list};
+ghost use Rattle.settle_script.specs.Settlements.{HasDistinctNames, first_common as common_name};
 
 use crate::fault::JoinFault;
 use crate::value::{Entry, Value};
@@ -57,7 +57,7 @@ impl Model for Outcomes {
 }
 
 impl Outcomes {
-    ghost use Rattle.settle_script.specs.Settlements.{entry_named, known, IsFirstCommon};
+    ghost use Rattle.settle_script.specs.Settlements.{entry_named, known, IsFirstCommon, IsNew};
     ghost use Rattle.settle_script.specs.Index.{place_of};
 
     /// No settlement.
@@ -83,7 +83,10 @@ impl Outcomes {
         ensures { option_copied result ≡ known self.now settled name.now }
     {
         match self.place(name) {
-            Some(place) if place < settled => Some(&self.entries[place as usize].value),
+            Some(place) if place < settled => {
+                let entries = self.entries.as_slice();
+                Some(&entries[place as usize].value)
+            },
             _ => None,
         }
     }
@@ -114,10 +117,28 @@ impl Outcomes {
         ensures err { OnErr result (self.new ≡ self.old) }
     {
         self.entries.reserve(1)?;
+        let place = self.entries.as_slice().len() as u32;
         let key = String::from_str(alloc, settlement.name.as_str())?;
-        self.index.insert(key, self.entries.len() as u32)?;
+        self.index.insert(key, place)?;
         self.entries.push(settlement).unwrap();
         Ok(())
+    }
+
+    /// The same, if there is a settlement.
+    pub(crate) fn settle(
+        &mut self,
+        alloc: Global,
+        settlement: Option<Entry<Outcome>>,
+    ) -> Result<(), OutOfMemory>
+        requires new { IsNew settlement self.old }
+        requires few { length self.old + 1 < 2 ^ 32 }
+        ensures ok { OnOk result (self.new ≡ self.old ++ option_to_list settlement) }
+        ensures err { OnErr result (self.new ≡ self.old) }
+    {
+        match settlement {
+            Some(settlement) => self.push(alloc, settlement),
+            None => Ok(()),
+        }
     }
 
     /// These settlements and then the others. Refused where both settle a name; the first such name of the later ones
@@ -127,13 +148,42 @@ impl Outcomes {
         ensures accepted { IfOk result (λ all. all ≡ self.now ++ more.now) }
         ensures refused { IfErr result (IsFirstCommon self.now more.now) }
     {
-        for settlement in more.entries.as_slice() {
-            if self.contains(&settlement.name) {
-                return Err(JoinFault::AlreadySettled {
-                    name: settlement.name.copy(alloc)?,
-                });
-            }
+        if let Some(name) = first_common(self, more.entries.as_slice()) {
+            return Err(JoinFault::AlreadySettled {
+                name: name.copy(alloc)?,
+            });
         }
-        Err(JoinFault::OutOfMemory)
+        let mut all = Outcomes::new(alloc);
+        all.append(alloc, self.entries.as_slice())?;
+        all.append(alloc, more.entries.as_slice())?;
+        Ok(all)
     }
+
+    /// Adds copies of settlements at the end.
+    fn append(&mut self, alloc: Global, more: &[Entry<Outcome>]) -> Result<(), OutOfMemory>
+        requires distinct { HasDistinctNames (self.old ++ more.now) }
+        requires few { length self.old + length more.now < 2 ^ 32 }
+        ensures { OnOk result (self.new ≡ self.old ++ more.now) }
+    {
+        for settlement in more {
+            let copy = Entry {
+                name: settlement.name.copy(alloc)?,
+                value: settlement.value.copy(alloc)?,
+            };
+            self.push(alloc, copy)?;
+        }
+        Ok(())
+    }
+}
+
+/// The first name of the later settlements that the earlier ones have too.
+fn first_common<'a>(outcomes: &Outcomes, more: &'a [Entry<Outcome>]) -> Option<&'a Text>
+    ensures { option_copied result ≡ common_name outcomes.now more.now }
+{
+    for settlement in more {
+        if outcomes.contains(&settlement.name) {
+            return Some(&settlement.name);
+        }
+    }
+    None
 }

@@ -1,22 +1,22 @@
 //! Scripts.
 
-ghost use Rattle.std.specs.Prelude.{◌≡◌, ◌+◌, ◌<◌, ◌≤◌, ◌^◌, ◌++◌, ◌∷◌, [], length, None, IfOk, IfErr, OnOk};
+ghost use Rattle.std.specs.Prelude.{◌≡◌, ◌+◌, ◌<◌, ◌≤◌, ◌^◌, ◌++◌, ◌∷◌, [], length, Some, None, IfSome, IfOk, IfErr, OnOk};
+ghost use Rattle.serde_json.specs.Data.{array};
 ghost use Rattle.serde_json.specs.View.{view, items_view};
-ghost use Rattle.settle_script.specs.Scripts.{IsScript, IsFaultOf, Answers, outcomes_of, events_of, next_event, settled_before, settled_name};
+ghost use Rattle.settle_script.specs.Scripts.{IsScript, IsFaultOf, Answers, script_of, outcomes_of, events_of, first_settling, next_event, settled_before, settled_name};
 
 use crate::event::{Event, event_of};
 use crate::fault::ScriptFault;
 use crate::outcome::Outcomes;
-use fizz_text::OutOfMemory;
+use fizz_text::{OutOfMemory, Text};
 use serde_json::Value as Json;
-use sqlite_items::Items;
 use std::alloc::Global;
 use std::marker::Model;
 
 /// A script, which contracts see as the list of its lines.
 #[derive(Drop)]
 pub struct Script {
-    events: Items<Event>,
+    events: Vec<Event>,
     outcomes: Outcomes,
 }
 
@@ -32,9 +32,9 @@ impl Model for Script {
 
     ghost use Rattle.settle_script.specs.Scripts.{outcomes_of};
 
-    ghost view = { λ s. s.events };
+    ghost view = { λ s. s.events.items };
 
-    ghost invariant = { λ s. s.outcomes ≡ outcomes_of s.events };
+    ghost invariant = { λ s. s.outcomes ≡ outcomes_of s.events.items };
 }
 
 impl Script {
@@ -57,16 +57,23 @@ impl Script {
         requires { length self.now < 2 ^ 32 }
         ensures { result ≡ settled_before (settled_name event.now) self.now }
     {
-        let name = event.settled_name()?;
+        match event.settled_name() {
+            Some(name) => self.first_settling(name),
+            None => None,
+        }
+    }
+
+    fn first_settling(&self, name: &Text) -> Option<u32>
+        requires { length self.now < 2 ^ 32 }
+        ensures { result ≡ first_settling name.now self.now }
+    {
         if !self.outcomes.contains(name) {
             return None;
         }
-        let first = self
-            .events
-            .as_slice()
-            .iter()
-            .position(|earlier| earlier.settles(name))?;
-        Some(first as u32)
+        match first_named(self.events.as_slice(), name) {
+            Some(first) => Some(first as u32),
+            None => None,
+        }
     }
 
     /// Adds a line that settles no name anew.
@@ -75,12 +82,19 @@ impl Script {
         requires few { length self.old + 1 < 2 ^ 32 }
         ensures ok { OnOk result (self.new ≡ self.old ++ event ∷ []) }
     {
-        if let Some(settlement) = event.settlement(alloc)? {
-            self.outcomes.push(alloc, settlement)?;
-        }
-        self.events.push(event)?;
+        self.events.reserve(1)?;
+        let settlement = event.settlement(alloc)?;
+        self.outcomes.settle(alloc, settlement)?;
+        self.events.push(event).unwrap();
         Ok(())
     }
+}
+
+fn first_named(events: &[Event], name: &Text) -> Option<usize>
+    ensures found { result ≡ first_settling name.now events.now }
+    ensures within { IfSome result (λ first. first < length events.now) }
+{
+    events.iter().position(|event| event.settles(name))
 }
 
 /// The most lines of a script.
@@ -97,23 +111,36 @@ pub fn read_script(alloc: Global, bytes: &[u8]) -> Result<Script, ScriptFault>
         Err(error) if error.is_memory() => return Err(ScriptFault::OutOfMemory),
         Err(_) => return Err(ScriptFault::NotJson),
     };
-    let Json::Array(lines) = &json else {
-        return Err(ScriptFault::NotJson);
-    };
-    if lines.len() > MOST_LINES {
-        return Err(ScriptFault::TooManyEvents {
-            count: lines.len().min(u32::MAX as usize) as u32,
-        });
+    read_json(alloc, &json)
+}
+
+fn read_json(alloc: Global, json: &Json) -> Result<Script, ScriptFault>
+    ensures { Answers result (script_of (Some (view json.now))) }
+{
+    match json {
+        Json::Array(lines) => read_lines(alloc, lines.as_slice()),
+        _ => Err(ScriptFault::NotJson),
     }
-    read_lines(alloc, lines.as_slice())
 }
 
 fn read_lines(alloc: Global, lines: &[Json]) -> Result<Script, ScriptFault>
+    ensures { Answers result (script_of (Some (array (items_view lines.now)))) }
+{
+    let count = lines.len();
+    if count > MOST_LINES {
+        return Err(ScriptFault::TooManyEvents {
+            count: count.min(u32::MAX as usize) as u32,
+        });
+    }
+    read_events(alloc, lines)
+}
+
+fn read_events(alloc: Global, lines: &[Json]) -> Result<Script, ScriptFault>
     requires { length lines.now ≤ 65536 }
     ensures { Answers result (events_of [] (items_view lines.now)) }
 {
     let mut script = Script {
-        events: Items::new(alloc),
+        events: Vec::new(alloc),
         outcomes: Outcomes::new(alloc),
     };
     for line in lines {
@@ -128,7 +155,8 @@ fn read_lines(alloc: Global, lines: &[Json]) -> Result<Script, ScriptFault>
 /// The event of the line behind those of the script.
 fn next_event(alloc: Global, script: &Script, line: &Json) -> Result<Event, ScriptFault>
     requires { length script.now < 2 ^ 32 }
-    ensures { Answers result (next_event script.now (view line.now)) }
+    ensures event { Answers result (next_event script.now (view line.now)) }
+    ensures new { IfOk result (λ event. settled_before (settled_name event) script.now ≡ None) }
 {
     let index = script.events.len() as u32;
     let event = match event_of(alloc, index, line) {
