@@ -15,3 +15,6 @@ pub use json::value_of_json;
 pub use outcome::{Outcome, Outcomes};
 pub use script::{Script, read_script};
 pub use value::{Entry, Value};
+
+#[cfg(test)]
+mod tests;
