@@ -21,6 +21,7 @@ mod string;
 #[cfg(test)]
 mod tests;
 mod token;
+mod word;
 
 pub use fault::{LexFault, LexKind};
 pub use laws::{one_fault, one_string_text, one_token_list, token_words, tokens_or_fault};
@@ -28,3 +29,4 @@ pub use lexer::lex;
 pub use meaning::{decode_string, decode_tag_string, decode_text, number_value};
 pub use mode::{Change, Mode};
 pub use token::{Token, TokenKind};
+pub use word::{Punctuator, Word};
