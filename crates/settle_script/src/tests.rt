@@ -4,7 +4,7 @@ mod faults;
 mod limits;
 mod lines;
 
-use crate::{Event, Outcome, Outcomes, Script, Value, read_script, value_of_json};
+use crate::{JoinFault, Outcome, Outcomes, Script, Value, read_script, value_of_json};
 use fizz_text::Text;
 use serde_json::Value as Json;
 use std::alloc::Global;
@@ -62,6 +62,14 @@ fn is_known(outcomes: &Outcomes, name: &'static str, settled: u32, shown: Option
         (Some(Outcome::Resolved(value)), Some(shown)) => is_shown(value, shown),
         (Some(Outcome::Rejected(digest)), Some(shown)) => digest.as_str() == shown,
         _ => false,
+    }
+}
+
+/// The joined lists. Two of a test are short.
+fn join(alloc: Global, first: &Outcomes, later: &Outcomes) -> Result<Outcomes, JoinFault> {
+    match first.len().checked_add(later.len()) {
+        Some(_) => first.joined(alloc, later),
+        None => Err(JoinFault::OutOfMemory),
     }
 }
 

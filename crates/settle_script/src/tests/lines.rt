@@ -1,7 +1,7 @@
 //! Scripts with their lines and settlements, and values.
 
-use super::{check_value, is_known, script};
-use crate::{Entry, Event, Value, value_of_json};
+use super::{check_value, is_known, join, script};
+use crate::{Event, Value, value_of_json};
 use serde_json::Value as Json;
 use std::test::Fail;
 
@@ -112,7 +112,10 @@ fn settlements(rt: HostRuntime) -> Result<(), Fail> {
         is_known(known, "a", 9, Some("d")) && is_known(known, "c", 9, None),
         "c"
     );
-    let all = known.joined(alloc, later.outcomes())?;
+    let Ok(all) = join(alloc, known, later.outcomes()) else {
+        assert!(rt; false, "not joined");
+        return Ok(());
+    };
     assert_eq!(rt; all.len(), 3);
     assert!(rt;
         is_known(&all, "b", 3, Some("x")) && is_known(&all, "", 2, None),

@@ -1,0 +1,5 @@
+pub mod Values
+pub mod Expressions
+pub mod PrintedAttributes
+pub mod Positions
+pub mod Spots
