@@ -10,7 +10,7 @@ mkdir -p "$program/src" "$program/proofs/read_all"
 for crate in fizz_text html_names html_read; do
     cp -r "$root/crates/$crate" "$work/crates/$crate"
 done
-printf 'fizz_text:\nhtml_names: fizz_text serde_json\nhtml_read: fizz_text html_names\nread_bench: html_read\n' >"$work/crates.txt"
+printf 'fizz_text: thiserror\nhtml_names: fizz_text serde_json thiserror\nhtml_read: fizz_text html_names thiserror\nread_bench: html_read\n' >"$work/crates.txt"
 cat >"$program/src/main.rt" <<'RT'
 //! Times the reader over a page in pieces.
 #![tactic(auto)]

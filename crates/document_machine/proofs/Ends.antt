@@ -3,10 +3,10 @@ use Rattle.std.proofs.Common.{◌≡◌, ◌≢◌, ℕ, ◌+◌, ◌==◌, Bool
 use Rattle.std.proofs.Common.{length-append}
 use Rattle.std.proofs.lemmas.List.{append-nil, nil_from_length}
 use Rattle.std.proofs.lemmas.Bool.{ltb-false}
-use Rattle.html_names.specs.Escape.{escaped, spelling_of}
+use Rattle.html_names.specs.Escape.{escape_of, spelling_of}
 use Rattle.html_read.specs.declared.token.Token.{Token}
 use Rattle.html_read.specs.declared.token.Token.TheVariants as tok
-use Rattle.html_read.specs.Tokens.{IsTok, is_text, spelling, spellings}
+use Rattle.html_read.specs.Tokens.{IsToken, is_text, spelling, spellings}
 use Rattle.html_read.specs.Reading.{ReaderState, HasRead, IsOpenText, IsTextSoFar, IsUnfinished}
 use Rattle.dom_forest.specs.declared.node.NewNode.TheVariants.{Text}
 use Rattle.document_machine.specs.declared.building.OpenElement.{OpenElement}
@@ -41,12 +41,12 @@ front_some : (xs ys : List ℕ) → xs ≢ [] → xs ++ ys ≢ []
 front_some [] ys h = absurd (h refl)
 front_some (x ∷ xs) ys h = Some≢nil x (xs ++ ys)
 
-escaped_some : (text : List ℕ) → text ≢ [] → escaped text ≢ []
+escaped_some : (text : List ℕ) → text ≢ [] → escape_of text ≢ []
 escaped_some [] h = absurd (h refl)
-escaped_some (b ∷ text) h = front_some (spelling_of b) (escaped text) (spelled_some b)
+escaped_some (b ∷ text) h = front_some (spelling_of b) (escape_of text) (spelled_some b)
 
 -- A text has bytes.
-text_some : (t : Token) → IsTok t → is_text t ≡ true → spelling t ≢ []
+text_some : (t : Token) → IsToken t → is_text t ≡ true → spelling t ≢ []
 text_some (tok.Start name attributes from) is e = absurd (true≢false (sym e))
 text_some (tok.End name from) is e = absurd (true≢false (sym e))
 text_some (tok.Void name attributes from) is e = absurd (true≢false (sym e))
@@ -76,7 +76,7 @@ ends_text prefix bytes reader built end t o s w = record {
     rest = reader.rest;
     last = t ∷ [];
     split = w.read.split;
-    text = (o.is_tok, o.text, o.spelled);
+    text = (o.is_token, o.text, o.spelled);
     steps = steps_push prefix at_first built end w.toks t w.steps s;
   };
   no_rest = λ e. absurd (some_tok t [] e);
@@ -142,12 +142,12 @@ pub fed_length : (bytes : List ℕ) (toks : List Token) (reader : ReaderState) �
 fed_length bytes toks reader r = omega (arith, r.place_is, ap length r.split.whole, length-append (spellings toks) reader.rest)
 
 -- The text so far, at its place.
-text_here : (reader : ReaderState) (t : Token) → reader.fault ≡ None → IsTok t → is_text t ≡ true → reader.rest ≡ spelling t → IsTextSoFar reader None → ⊥
+text_here : (reader : ReaderState) (t : Token) → reader.fault ≡ None → IsToken t → is_text t ≡ true → reader.rest ≡ spelling t → IsTextSoFar reader None → ⊥
 text_here reader (tok.Start name attributes from) f is e r n = absurd (true≢false (sym e))
 text_here reader (tok.End name from) f is e r n = absurd (true≢false (sym e))
 text_here reader (tok.Void name attributes from) f is e r n = absurd (true≢false (sym e))
 text_here reader (tok.Text text from) f is e r n =
-    n (tok.Text text reader.place) (record { sound = f; text = refl; is_tok = is; place_is = refl; spelled = r })
+    n (tok.Text text reader.place) (record { sound = f; text = refl; is_token = is; place_is = refl; spelled = r })
 text_here reader (tok.Comment which from) f is e r n = absurd (true≢false (sym e))
 text_here reader (tok.Script body from) f is e r n = absurd (true≢false (sym e))
 

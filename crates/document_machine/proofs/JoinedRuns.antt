@@ -3,10 +3,10 @@ use Rattle.std.proofs.Common.{◌≡◌, ◌≢◌, ℕ, Bool, true, false, if�
 use Rattle.std.specs.Str.{IsUtf8}
 use Rattle.std.proofs.lemmas.List.{append_cancel_left}
 use Rattle.std.proofs.lemmas.List.Concat.{flat_map-append}
-use Rattle.html_names.specs.Escape.{spelling_of, escaped}
+use Rattle.html_names.specs.Escape.{spelling_of, escape_of}
 use Rattle.html_read.specs.declared.token.Token.{Token}
 use Rattle.html_read.specs.declared.token.Token.TheVariants as tok
-use Rattle.html_read.specs.Tokens.{IsTok, MayFollow, spelling, spellings, is_text}
+use Rattle.html_read.specs.Tokens.{IsToken, MayFollow, spelling, spellings, is_text}
 use Rattle.html_read.specs.Faults.{Splits, begins_tag, ends_in_text}
 use Rattle.document_machine.specs.Running.{PageState}
 use Rattle.document_machine.specs.Documents.{Steps, IsTextAtEnd, Runs, LeavesNoRest}
@@ -24,11 +24,11 @@ spelled_no_tag : (b : ℕ) (more : List ℕ) → begins_tag (spelling_of b ++ mo
 spelled_no_tag b more =
     if_keeps (b == 34) _ _ more refl (λ _. if_keeps (b == 38) _ _ more refl (λ _. if_keeps (b == 39) _ _ more refl (λ _. if_keeps (b == 60) _ _ more refl (λ e. if_keeps (b == 62) _ _ more refl (λ _. e)))))
 
-escaped_no_tag : (text more : List ℕ) → text ≢ [] → begins_tag (escaped text ++ more) ≡ false
+escaped_no_tag : (text more : List ℕ) → text ≢ [] → begins_tag (escape_of text ++ more) ≡ false
 escaped_no_tag [] more some = absurd (some refl)
-escaped_no_tag (b ∷ bs) more some = ap begins_tag (append_assoc (spelling_of b) (escaped bs) more) ∙ spelled_no_tag b (escaped bs ++ more)
+escaped_no_tag (b ∷ bs) more some = ap begins_tag (append_assoc (spelling_of b) (escape_of bs) more) ∙ spelled_no_tag b (escape_of bs ++ more)
 
-text_no_tag : (t : Token) (more : List ℕ) → IsTok t → is_text t ≡ true → begins_tag (spelling t ++ more) ≡ false
+text_no_tag : (t : Token) (more : List ℕ) → IsToken t → is_text t ≡ true → begins_tag (spelling t ++ more) ≡ false
 text_no_tag (tok.Start name attributes from) more h t = absurd (nothing_true t)
 text_no_tag (tok.End name from) more h t = absurd (nothing_true t)
 text_no_tag (tok.Void name attributes from) more h t = absurd (nothing_true t)

@@ -2,7 +2,7 @@
 use Rattle.std.proofs.Common.{◌≡◌, ℕ, ◌+◌, Bool, false, List, [], ◌∷◌, ◌++◌, length, refl, sym, ◌∙◌, ap, subst}
 use Rattle.html_read.specs.declared.token.Token.{Token}
 use Rattle.html_read.specs.declared.token.Token.TheVariants as tok
-use Rattle.html_read.specs.Tokens.{IsTok, AreTokensFrom, MayFollow, spelling, spellings, is_text, place_of}
+use Rattle.html_read.specs.Tokens.{IsToken, AreTokensFrom, MayFollow, spelling, spellings, is_text, place_of}
 use Rattle.html_read.specs.Faults.{ends_in_text}
 use Rattle.document_machine.specs.Running.{PageState}
 use Rattle.document_machine.specs.Documents.{Step, starts, ends, stands, says, marks, runs, Steps}
@@ -17,18 +17,18 @@ moved place (tok.Script body from) = tok.Script body place
 
 -- The token is the same but for its place.
 pub record IsMoved (place : ℕ) (t : Token) : Type 0 where
-  pub is_tok : IsTok t → IsTok (moved place t)
+  pub is_token : IsToken t → IsToken (moved place t)
   pub spelled : spelling (moved place t) ≡ spelling t
   pub text : is_text (moved place t) ≡ is_text t
   pub place_is : place_of (moved place t) ≡ place
 
 pub is_moved : (place : ℕ) (t : Token) → IsMoved place t
-is_moved place (tok.Start name attributes from) = record { is_tok = λ h. h; spelled = refl; text = refl; place_is = refl }
-is_moved place (tok.End name from) = record { is_tok = λ h. h; spelled = refl; text = refl; place_is = refl }
-is_moved place (tok.Void name attributes from) = record { is_tok = λ h. h; spelled = refl; text = refl; place_is = refl }
-is_moved place (tok.Text text from) = record { is_tok = λ h. h; spelled = refl; text = refl; place_is = refl }
-is_moved place (tok.Comment which from) = record { is_tok = λ h. h; spelled = refl; text = refl; place_is = refl }
-is_moved place (tok.Script body from) = record { is_tok = λ h. h; spelled = refl; text = refl; place_is = refl }
+is_moved place (tok.Start name attributes from) = record { is_token = λ h. h; spelled = refl; text = refl; place_is = refl }
+is_moved place (tok.End name from) = record { is_token = λ h. h; spelled = refl; text = refl; place_is = refl }
+is_moved place (tok.Void name attributes from) = record { is_token = λ h. h; spelled = refl; text = refl; place_is = refl }
+is_moved place (tok.Text text from) = record { is_token = λ h. h; spelled = refl; text = refl; place_is = refl }
+is_moved place (tok.Comment which from) = record { is_token = λ h. h; spelled = refl; text = refl; place_is = refl }
+is_moved place (tok.Script body from) = record { is_token = λ h. h; spelled = refl; text = refl; place_is = refl }
 
 pub moved_step : (prefix : List ℕ) (place : ℕ) (a : PageState) (t : Token) (c : PageState) → Step prefix a t c → Step prefix a (moved place t) c
 moved_step prefix place a t c (starts b name attributes from room) = starts b name attributes place room
@@ -59,7 +59,7 @@ placed_ends place after (t ∷ ts) =
 -- What may be tokens one after the other, their places apart.
 abbrev pub MayBeTokens : Bool → List Token → Type 0
 MayBeTokens after [] = Unit {0}
-MayBeTokens after (t ∷ ts) = IsTok t × MayFollow after (is_text t) × MayBeTokens (is_text t) ts
+MayBeTokens after (t ∷ ts) = IsToken t × MayFollow after (is_text t) × MayBeTokens (is_text t) ts
 
 pub may_be_tokens : (place : ℕ) (after : Bool) (toks : List Token) → AreTokensFrom place after toks → MayBeTokens after toks
 may_be_tokens place after [] h = tt
@@ -73,7 +73,7 @@ placed_are place after (t ∷ ts) h =
     let there : AreTokensFrom (place + length (spelling (moved place t))) (is_text (moved place t)) (placed (place + length (spelling t)) ts) =
     subst (λ s. AreTokensFrom (place + length s) (is_text (moved place t)) (placed (place + length (spelling t)) ts)) (sym m.spelled)
     (subst (λ x. AreTokensFrom (place + length (spelling t)) x (placed (place + length (spelling t)) ts)) (sym m.text) later) in
-    (m.is_tok h.0, m.place_is, subst (MayFollow after) (sym m.text) h.1, there)
+    (m.is_token h.0, m.place_is, subst (MayFollow after) (sym m.text) h.1, there)
 
 -- Whatever may stand after a text or not may stand at the front.
 front_may : (after text : Bool) → MayFollow after text → MayFollow false text

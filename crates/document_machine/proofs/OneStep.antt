@@ -9,7 +9,7 @@ use Rattle.fizz_instructions.specs.Bodies.{function_of}
 use Rattle.fizz_instructions.specs.Sending.{with_function}
 use Rattle.fizz_instructions.specs.Reading.{Says}
 use Rattle.fizz_instructions.specs.declared.instruction.Instruction.{Instruction}
-use Rattle.fizz_instructions.specs.declared.instruction.Sent.{Sent}
+use Rattle.fizz_instructions.specs.declared.instruction.SentFunctions.{SentFunctions}
 use Rattle.document_machine.specs.declared.building.OpenElement.{OpenElement}
 use Rattle.document_machine.specs.Edits.{Edited}
 use Rattle.document_machine.specs.Running.{PageState, ids_of, mark_of, with_node, with_open, acted}
@@ -47,7 +47,7 @@ leads_to prefix a t c (says b text from) = refl
 leads_to prefix a t c (marks b which from) = refl
 leads_to prefix a t c (runs b body from i dom said is) = record { instruction = i; dom = dom; said = said; acts = is; is = refl }
 
-pub one_said : ScriptLaws → (prefix : List ℕ) → IsUtf8 prefix → (body : List ℕ) (known other : Sent) (i j : Instruction) → Says prefix body known i → Says prefix body other j → i ≡ j
+pub one_said : ScriptLaws → (prefix : List ℕ) → IsUtf8 prefix → (body : List ℕ) (known other : SentFunctions) (i j : Instruction) → Says prefix body known i → Says prefix body other j → i ≡ j
 one_said laws prefix utf8 body known other i j s t =
     (laws.one prefix i j s.defines t.defines utf8 s.body_is.valid t.body_is.valid (sym s.body_is.is ∙ t.body_is.is)).0
 

@@ -2,11 +2,11 @@
 use Rattle.std.proofs.Common.{◌≡◌, ℕ, zero, suc, ◌-◌, Bool, true, false, if◌then◌else◌, Option, Some, None, List, [], ◌∷◌, ◌++◌, length, codes, unwrap_or, refl, sym, ◌∙◌, ap, subst, arith, append-nil, append_assoc}
 use Rattle.fizz_text.specs.declared.attribute.Attr.{Attr}
 use Rattle.html_names.specs.Elements.{void_flag}
-use Rattle.html_names.specs.Escape.{escaped}
+use Rattle.html_names.specs.Escape.{escape_of}
 use Rattle.html_read.specs.declared.token.Token.{Token}
 use Rattle.html_read.specs.declared.token.Token.TheVariants as tok
 use Rattle.html_read.specs.Names.{IsTagName}
-use Rattle.html_names.specs.Printing.{tag_front}
+use Rattle.html_names.specs.Printing.{tag_prefix}
 use Rattle.html_read.specs.Tokens.{AreAttributes, AreTokens, MayFollow, spelling, spellings}
 use Rattle.dom_forest.specs.declared.node.Mark.{Mark}
 use Rattle.dom_forest.specs.declared.node.Mark.TheVariants as mark
@@ -37,10 +37,10 @@ forest_toks (tree i (Comment mark) kids later) more = tok.Comment (said_of mark)
 
 element_spelled : (void : Bool) (name : List ℕ) (attributes : List Attr) (inner : List Token → List Token) (bytes : List ℕ) (rest : List Token) → ((more : List Token) → spellings (inner more) ≡ bytes ++ spellings more)
     → spellings (element_toks void name attributes inner rest)
-    ≡ (if void then tag_front name attributes ++ codes "/>" else (tag_front name attributes ++ codes ">") ++ (bytes ++ (codes "</" ++ (name ++ codes ">")))) ++ spellings rest
+    ≡ (if void then tag_prefix name attributes ++ codes "/>" else (tag_prefix name attributes ++ codes ">") ++ (bytes ++ (codes "</" ++ (name ++ codes ">")))) ++ spellings rest
 element_spelled true name attributes inner bytes rest e = refl
 element_spelled false name attributes inner bytes rest e =
-    let front : List ℕ = tag_front name attributes ++ codes ">" in
+    let front : List ℕ = tag_prefix name attributes ++ codes ">" in
     let end : List ℕ = codes "</" ++ (name ++ codes ">") in
     ap (λ x. front ++ x) (e (tok.End name 0 ∷ rest) ∙ sym (append_assoc bytes end (spellings rest))) ∙ sym (append_assoc front (bytes ++ end) (spellings rest))
 
@@ -52,7 +52,7 @@ forest_spelled empty more = refl
 forest_spelled (tree i (Element name attributes) kids later) more =
     element_spelled (is_void name) name attributes (forest_toks kids) (page_bytes kids) (forest_toks later more) (forest_spelled kids)
     ∙ spelled_on _ (page_bytes later) (spellings (forest_toks later more)) more (forest_spelled later more)
-forest_spelled (tree i (Text text) kids later) more = spelled_on (escaped text) (page_bytes later) (spellings (forest_toks later more)) more (forest_spelled later more)
+forest_spelled (tree i (Text text) kids later) more = spelled_on (escape_of text) (page_bytes later) (spellings (forest_toks later more)) more (forest_spelled later more)
 forest_spelled (tree i (Comment mark) kids later) more =
     spelled_on (spelling (tok.Comment (said_of mark) 0)) (page_bytes later) (spellings (forest_toks later more)) more (forest_spelled later more)
 

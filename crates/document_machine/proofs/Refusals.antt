@@ -10,7 +10,7 @@ use Rattle.fizz_instructions.specs.Bodies.{function_of}
 use Rattle.fizz_instructions.specs.Sending.{has}
 use Rattle.fizz_instructions.specs.Reading.{Says, IsNoBody, CallsUnknown}
 use Rattle.fizz_instructions.specs.declared.instruction.Instruction.{Instruction}
-use Rattle.fizz_instructions.specs.declared.instruction.Sent.{Sent}
+use Rattle.fizz_instructions.specs.declared.instruction.SentFunctions.{SentFunctions}
 use Rattle.document_machine.specs.declared.building.OpenElement.{OpenElement}
 use Rattle.document_machine.specs.declared.edits.EditFault.{EditFault}
 use Rattle.document_machine.specs.declared.edits.EditFault.TheVariants as edit
@@ -66,7 +66,7 @@ no_text prefix a (tok.Script body from) fault r = refl
 pub refused_no_text : (prefix : List ℕ) (a : PageState) (t : Token) (fault : MachineFault) → Refuses prefix a t fault → is_text t ≡ false
 refused_no_text prefix a t fault r = no_text prefix a t fault (is_refused prefix a t fault r)
 
-said_is_known : ScriptLaws → (prefix : List ℕ) → IsUtf8 prefix → (body : List ℕ) (known : Sent) (i : Instruction) → Says prefix body known i → CallsUnknown prefix body known → ⊥
+said_is_known : ScriptLaws → (prefix : List ℕ) → IsUtf8 prefix → (body : List ℕ) (known : SentFunctions) (i : Instruction) → Says prefix body known i → CallsUnknown prefix body known → ⊥
 said_is_known laws prefix utf8 body known i s u =
     let same : (i ≡ u.instruction) × (s.defines ≡ false) = laws.one prefix i u.instruction s.defines false utf8 s.body_is.valid u.body_is.valid (sym s.body_is.is ∙ u.body_is.is) in
     true≢false (sym (s.callable same.1) ∙ (ap (λ x. has known (function_of x)) same.0 ∙ u.unknown))

@@ -4,10 +4,10 @@ use Rattle.std.proofs.lemmas.Slice.Eq.{bytes_eq-Decides}
 use Rattle.fizz_text.specs.declared.attribute.Attr.{Attr}
 use Rattle.html_read.specs.declared.token.Token.{Token}
 use Rattle.html_read.specs.declared.token.Token.TheVariants as tok
-use Rattle.html_read.specs.declared.token.CommentKind.{CommentKind}
+use Rattle.html_names.specs.declared.comments.CommentKind.{CommentKind}
 use Rattle.dom_forest.specs.Edits.{DomState, appended}
 use Rattle.dom_forest.specs.declared.node.NewNode.TheVariants.{Element, Text, Comment}
-use Rattle.fizz_instructions.specs.declared.instruction.Sent.{Sent}
+use Rattle.fizz_instructions.specs.declared.instruction.SentFunctions.{SentFunctions}
 use Rattle.document_machine.specs.declared.building.OpenElement.{OpenElement}
 use Rattle.document_machine.specs.declared.fault.MachineFault.{MachineFault}
 use Rattle.document_machine.specs.declared.fault.MachineFault.TheVariants.{Html, UnknownFunction, NoSuchId, NotBoundary, OutOfMemory}
@@ -43,10 +43,10 @@ pub caused : {A : Type 0} (result : Result A MachineFault) (prefix : List ℕ) (
 caused (Ok v) prefix b c t u e f h = tt
 caused (Err e') prefix b c t u e f h = subst (λ x. IsStepCause prefix x u e') e (subst (λ x. IsStepCause prefix b x e') (sym f) h)
 
-abbrev pub built : DomState → List OpenElement → Sent → PageState
+abbrev pub built : DomState → List OpenElement → SentFunctions → PageState
 built dom opened known = record { dom = dom; opened = opened; known = known }
 
-pub opens_step : (prefix : List ℕ) (dom new : DomState) (opened after : List OpenElement) (known : Sent) (name : List ℕ) (attributes : List Attr) (from : ℕ)
+pub opens_step : (prefix : List ℕ) (dom new : DomState) (opened after : List OpenElement) (known : SentFunctions) (name : List ℕ) (attributes : List Attr) (from : ℕ)
     → length opened < most_open → new ≡ appended (innermost opened) (Element name attributes) dom
     → after ≡ record { id = record { 0 = dom.next }; name = name } ∷ opened
     → Step prefix (built dom opened known) (tok.Start name attributes from) (built new after known)
@@ -64,7 +64,7 @@ open_cause prefix b name attributes from (NoSuchId at id) h = absurd h
 open_cause prefix b name attributes from (NotBoundary at) h = absurd h
 open_cause prefix b name attributes from OutOfMemory h = tt
 
-pub ends_step : (prefix : List ℕ) (dom : DomState) (opened after : List OpenElement) (known : Sent) (name : List ℕ) (from : ℕ)
+pub ends_step : (prefix : List ℕ) (dom : DomState) (opened after : List OpenElement) (known : SentFunctions) (name : List ℕ) (from : ℕ)
     → Closes name opened after → Step prefix (built dom opened known) (tok.End name from) (built dom after known)
 ends_step prefix dom [] after known name from h = absurd (true≢false (sym h.0))
 ends_step prefix dom (inner ∷ outer) after known name from h =
@@ -108,7 +108,7 @@ pub comment_step : (prefix : List ℕ) (b new : PageState) (t : Token) (which : 
 comment_step prefix b new t which from e f =
     subst (λ x. Step prefix b x new) (sym e) (subst (λ x. Step prefix b (tok.Comment which from) x) (sym f) (marks b which from))
 
-pub script_step : (prefix : List ℕ) (dom new : DomState) (opened slice : List OpenElement) (known learned : Sent) (body read : List ℕ) (from : ℕ)
+pub script_step : (prefix : List ℕ) (dom new : DomState) (opened slice : List OpenElement) (known learned : SentFunctions) (body read : List ℕ) (from : ℕ)
     → slice ≡ opened → read ≡ body → Follows prefix read (ids_of (reverse slice)) dom known new learned
     → Step prefix (built dom (reverse opened) known) (tok.Script body from) (built new (reverse opened) learned)
 script_step prefix dom new opened slice known learned body read from e r f =
@@ -127,7 +127,7 @@ script_refuses prefix b body from (NotBoundary at) h =
     subst (λ n. Refuses prefix b (tok.Script body from) (NotBoundary n)) (sym h.0) (finds_no_boundary b body from h.1.instruction h.1.said h.1.acts)
 script_refuses prefix b body from OutOfMemory h = tt
 
-pub script_cause : (prefix : List ℕ) (dom : DomState) (opened slice : List OpenElement) (known : Sent) (body read : List ℕ) (from : ℕ) → slice ≡ opened → read ≡ body
+pub script_cause : (prefix : List ℕ) (dom : DomState) (opened slice : List OpenElement) (known : SentFunctions) (body read : List ℕ) (from : ℕ) → slice ≡ opened → read ≡ body
     → (e : MachineFault) → IsScriptRefusal prefix read (ids_of (reverse slice)) dom known from e
     → IsStepCause prefix (built dom (reverse opened) known) (tok.Script body from) e
 script_cause prefix dom opened slice known body read from e r fault h =

@@ -4,7 +4,7 @@ use Rattle.std.specs.Str.{IsUtf8}
 use Rattle.std.proofs.lemmas.Bool.{cases_Bool, true≢false}
 use Rattle.std.proofs.lemmas.List.Concat.{flat_map-append}
 use Rattle.html_read.specs.declared.token.Token.{Token}
-use Rattle.html_read.specs.Tokens.{IsTok, AreTokens, AreTokensFrom, MayFollow, Tokenizes, spelling, spellings, is_text}
+use Rattle.html_read.specs.Tokens.{IsToken, AreTokens, AreTokensFrom, MayFollow, Tokenizes, spelling, spellings, is_text}
 use Rattle.html_read.specs.Faults.{Splits, ends_in_text}
 use Rattle.document_machine.specs.Running.{PageState}
 use Rattle.document_machine.specs.Documents.{Steps, IsTextAtEnd, Runs, LeavesNoRest}
@@ -16,15 +16,15 @@ pub nothing_true : false ≡ true → ⊥
 nothing_true e = true≢false (sym e)
 
 -- One token by itself.
-one_token : (bytes : List ℕ) (t : Token) → IsTok t → bytes ≡ spelling t → Tokenizes bytes (moved 0 t ∷ [])
+one_token : (bytes : List ℕ) (t : Token) → IsToken t → bytes ≡ spelling t → Tokenizes bytes (moved 0 t ∷ [])
 one_token bytes t h e =
     let m : IsMoved 0 t = is_moved 0 t in
-    record { spelled = e ∙ (sym m.spelled ∙ sym (append-nil (spelling (moved 0 t)))); tokens = (m.is_tok h, m.place_is, tt, tt) }
+    record { spelled = e ∙ (sym m.spelled ∙ sym (append-nil (spelling (moved 0 t)))); tokens = (m.is_token h, m.place_is, tt, tt) }
 
 pub no_list : (t : Token) (ts : List Token) → t ∷ ts ≡ [] → ⊥
 no_list t ts e = cc
 
-pub no_empty_token : TokenLaws → (t : Token) → IsTok t → [] ≢ spelling t
+pub no_empty_token : TokenLaws → (t : Token) → IsToken t → [] ≢ spelling t
 no_empty_token laws t h e = no_list (moved 0 t) [] (laws.one [] (moved 0 t ∷ []) [] (one_token [] t h e) (record { spelled = refl; tokens = tt }))
 
 pub same_last : TokenLaws → (rest : List ℕ) (a b : List Token) → IsTextAtEnd rest a → IsTextAtEnd rest b → placed 0 a ≡ placed 0 b
@@ -61,7 +61,7 @@ pub record EndsInText (place : ℕ) (after : Bool) (toks : List Token) : Type 0 
   pub last : Token
   pub are : toks ≡ front ++ last ∷ []
   pub tokens : AreTokensFrom place after front
-  pub is_tok : IsTok last
+  pub is_token : IsToken last
   pub text : is_text last ≡ true
   pub before : ends_in_text after front ≡ false
 
@@ -71,7 +71,7 @@ no_text_before false h = refl
 
 ends_in_one : (place : ℕ) (after : Bool) (t : Token) (ts : List Token) → AreTokensFrom place after (t ∷ ts) → ends_in_text after (t ∷ ts) ≡ true → EndsInText place after (t ∷ ts)
 ends_in_one place after t [] h e =
-    record { front = []; last = t; are = refl; tokens = tt; is_tok = h.0; text = e; before = no_text_before after (subst (MayFollow after) e h.2) }
+    record { front = []; last = t; are = refl; tokens = tt; is_token = h.0; text = e; before = no_text_before after (subst (MayFollow after) e h.2) }
 ends_in_one place after t (u ∷ us) h e =
     let later : EndsInText (place + length (spelling t)) (is_text t) (u ∷ us) = ends_in_one (place + length (spelling t)) (is_text t) u us h.3 e in
     record {
@@ -79,7 +79,7 @@ ends_in_one place after t (u ∷ us) h e =
       last = later.last;
       are = ap (λ x. t ∷ x) later.are;
       tokens = (h.0, h.1, h.2, later.tokens);
-      is_tok = later.is_tok;
+      is_token = later.is_token;
       text = later.text;
       before = later.before;
     }
@@ -106,10 +106,10 @@ tokens_run laws prefix start end toks h s =
       split = record {
         whole = ap spellings l.are ∙ (flat_map-append spelling l.front (l.last ∷ []) ∙ ap (λ x. spellings l.front ++ x) (append-nil (spelling l.last)));
         tokens = l.tokens;
-        begun = inr ([], l.last, l.is_tok, append-nil (spelling l.last), inl l.text);
+        begun = inr ([], l.last, l.is_token, append-nil (spelling l.last), inl l.text);
         ended = λ t. absurd (nothing_true (sym l.before ∙ t));
       };
-      text = (l.is_tok, l.text, refl);
+      text = (l.is_token, l.text, refl);
       steps = subst (λ x. Steps prefix start x end) l.are s;
     } in
     (run, no_last l.last (spelling l.last)) in

@@ -2,7 +2,7 @@
 use Rattle.std.specs.Prelude.{◌≡◌, ◌≢◌, ℕ, ◌<◌, true, List, [], ◌∷◌, ◌++◌, length, Ok}
 use Rattle.html_read.specs.declared.token.Token.{Token}
 use Rattle.html_read.specs.declared.token.Token.TheVariants as tok
-use Rattle.html_read.specs.Tokens.{IsTok, spelling, is_text}
+use Rattle.html_read.specs.Tokens.{IsToken, spelling, is_text}
 use Rattle.html_read.specs.Faults.{Splits}
 use Rattle.dom_forest.specs.Edits.{DomState}
 use Rattle.dom_forest.specs.declared.node.NewNode.TheVariants.{Element, Text, Comment}
@@ -38,8 +38,8 @@ Steps prefix start (t ∷ ts) end = (next : PageState) × Step prefix start t ne
 
 -- The rest counts as a text where it is one by itself, and is ignored otherwise.
 abbrev pub IsTextAtEnd : List ℕ → List Token → Type 0
-IsTextAtEnd rest [] = (t : Token) → IsTok t → is_text t ≡ true → rest ≢ spelling t
-IsTextAtEnd rest (t ∷ []) = IsTok t × (is_text t ≡ true) × (rest ≡ spelling t)
+IsTextAtEnd rest [] = (t : Token) → IsToken t → is_text t ≡ true → rest ≢ spelling t
+IsTextAtEnd rest (t ∷ []) = IsToken t × (is_text t ≡ true) × (rest ≡ spelling t)
 IsTextAtEnd rest (t ∷ u ∷ us) = ⊥
 
 -- Running the bytes from what was built leads to what is built then.

@@ -2,12 +2,13 @@
 use Rattle.std.specs.Prelude.{zero, suc, ◌≡◌, ◌≢◌, ℕ, ◌+◌, Bool, true, false, if◌then◌else◌, List, [], ◌++◌, codes, Option}
 use Rattle.std.specs.Str.{IsUtf8}
 use Rattle.fizz_text.specs.declared.attribute.Attr.{Attr}
-use Rattle.html_names.specs.Escape.{escaped}
-use Rattle.html_names.specs.Printing.{tag_front, end_tag}
-use Rattle.html_read.specs.Tokens.{said, AreAttributes}
+use Rattle.html_names.specs.Escape.{escape_of}
+use Rattle.html_names.specs.Printing.{tag_prefix, end_tag}
+use Rattle.html_names.specs.Comments.{comment_spelling}
+use Rattle.html_read.specs.Tokens.{AreAttributes}
 use Rattle.html_read.specs.Names.{IsTagName}
-use Rattle.html_read.specs.declared.token.CommentKind.{CommentKind}
-use Rattle.html_read.specs.declared.token.CommentKind.TheVariants as said
+use Rattle.html_names.specs.declared.comments.CommentKind.{CommentKind}
+use Rattle.html_names.specs.declared.comments.CommentKind.TheVariants as said
 use Rattle.dom_forest.specs.Printing.{is_void}
 use Rattle.dom_forest.specs.Forest.{Forest, empty, tree, count}
 use Rattle.dom_forest.specs.Edits.{DomState, with_last, renumbered}
@@ -28,14 +29,14 @@ said_of Space = said.Space
 -- An element around the bytes of its children; a void one is its tag alone.
 abbrev pub element_bytes : List ℕ → List Attr → List ℕ → List ℕ
 element_bytes name attributes inner =
-    if is_void name then tag_front name attributes ++ codes "/>"
-    else (tag_front name attributes ++ codes ">") ++ (inner ++ end_tag name)
+    if is_void name then tag_prefix name attributes ++ codes "/>"
+    else (tag_prefix name attributes ++ codes ">") ++ (inner ++ end_tag name)
 
 abbrev pub page_bytes : Forest → List ℕ
 page_bytes empty = []
 page_bytes (tree i (Element name attributes) kids later) = element_bytes name attributes (page_bytes kids) ++ page_bytes later
-page_bytes (tree i (Text text) kids later) = escaped text ++ page_bytes later
-page_bytes (tree i (Comment mark) kids later) = (codes "<!--" ++ (said (said_of mark) ++ codes "-->")) ++ page_bytes later
+page_bytes (tree i (Text text) kids later) = escape_of text ++ page_bytes later
+page_bytes (tree i (Comment mark) kids later) = comment_spelling (said_of mark) ++ page_bytes later
 
 abbrev pub HasNoNode : Forest → Type 0
 HasNoNode empty = Unit {0}

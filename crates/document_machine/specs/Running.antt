@@ -1,16 +1,16 @@
 -- What a token does to a document that is being built: tags nest strictly, and a script runs when its end was read.
 use Rattle.std.specs.Prelude.{ℕ, List, [], ◌∷◌, Option, Some, None}
 use Rattle.fizz_text.specs.declared.attribute.Attr.{Attr}
-use Rattle.html_read.specs.declared.token.CommentKind.{CommentKind}
-use Rattle.html_read.specs.declared.token.CommentKind.TheVariants as said
+use Rattle.html_names.specs.declared.comments.CommentKind.{CommentKind}
+use Rattle.html_names.specs.declared.comments.CommentKind.TheVariants as said
 use Rattle.dom_forest.specs.Edits.{DomState, nothing, appended}
 use Rattle.dom_forest.specs.declared.node.Mark.{Mark}
 use Rattle.dom_forest.specs.declared.node.Mark.TheVariants.{Complete, Pending, Client, End, Space}
 use Rattle.dom_forest.specs.declared.node.NewNode.{NewNode}
 use Rattle.dom_forest.specs.declared.node.NewNode.TheVariants.{Element}
 use Rattle.dom_forest.specs.declared.node.NodeId.{NodeId}
-use Rattle.fizz_instructions.specs.Sending.{none_sent}
-use Rattle.fizz_instructions.specs.declared.instruction.Sent.{Sent}
+use Rattle.fizz_instructions.specs.Sending.{no_function_sent}
+use Rattle.fizz_instructions.specs.declared.instruction.SentFunctions.{SentFunctions}
 use Rattle.fizz_instructions.specs.declared.instruction.Instruction.{Instruction}
 use Rattle.fizz_instructions.specs.declared.instruction.Instruction.TheVariants as instruction
 use Rattle.document_machine.specs.declared.building.OpenElement.{OpenElement}
@@ -21,14 +21,14 @@ use Rattle.document_machine.specs.Edits.{Edited, complete_boundary, fill_placeho
 pub record PageState : Type 0 where
   pub dom : DomState
   pub opened : List OpenElement
-  pub known : Sent
+  pub known : SentFunctions
 
 -- where a page begins
 abbrev pub at_first : PageState
-at_first = record { dom = nothing; opened = []; known = none_sent }
+at_first = record { dom = nothing; opened = []; known = no_function_sent }
 
 -- where a resumption begins: on a document, with some functions known
-abbrev pub on_document : DomState → Sent → PageState
+abbrev pub on_document : DomState → SentFunctions → PageState
 on_document dom known = record { dom = dom; opened = []; known = known }
 
 abbrev pub innermost : List OpenElement → Option NodeId

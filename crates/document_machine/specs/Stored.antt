@@ -3,8 +3,8 @@ use Rattle.std.specs.Prelude.{ℕ, List, Option, refl}
 use Rattle.std.specs.Coded.{Coded, code_by, coded×, coded_list, coded_option, coded_ℕ}
 use Rattle.dom_forest.specs.Edits.{DomState}
 use Rattle.dom_forest.specs.Stored.{numbered_code}
-use Rattle.fizz_instructions.specs.declared.instruction.Sent.{Sent}
-use Rattle.fizz_instructions.specs.contracts.instruction.Sent.{the_row as sent_row}
+use Rattle.fizz_instructions.specs.declared.instruction.SentFunctions.{SentFunctions}
+use Rattle.fizz_instructions.specs.contracts.instruction.SentFunctions.{the_row as sent_row}
 use Rattle.document_machine.specs.declared.building.OpenElement.{OpenElement}
 use Rattle.document_machine.specs.contracts.building.OpenElement.{the_row as open_row}
 use Rattle.html_read.specs.Reading.{ReaderState}
@@ -17,7 +17,7 @@ use Rattle.document_machine.specs.Running.{PageState}
 
 abbrev pub building_code : Coded PageState
 building_code =
-    code_by (DomState × (List OpenElement × Sent)) (coded× numbered_code (coded× (coded_list open_row.coded) sent_row.coded))
+    code_by (DomState × (List OpenElement × SentFunctions)) (coded× numbered_code (coded× (coded_list open_row.coded) sent_row.coded))
     (λ b. (b.dom, (b.opened, b.known))) (λ p. record { dom = p.0; opened = p.1.0; known = p.1.1 }) (λ _. refl)
 
 abbrev pub held_code : Coded ReaderState

@@ -6,7 +6,7 @@ use Rattle.fizz_instructions.specs.Bodies.{function_of}
 use Rattle.fizz_instructions.specs.Sending.{with_function}
 use Rattle.fizz_instructions.specs.Reading.{Says, IsNoBody, CallsUnknown}
 use Rattle.fizz_instructions.specs.declared.instruction.Instruction.{Instruction}
-use Rattle.fizz_instructions.specs.declared.instruction.Sent.{Sent}
+use Rattle.fizz_instructions.specs.declared.instruction.SentFunctions.{SentFunctions}
 use Rattle.html_read.specs.declared.token.Token.{Token}
 use Rattle.html_read.specs.declared.token.Token.TheVariants as tok
 use Rattle.html_read.specs.Reading.{ReaderState, HasRead, IsOpenText, IsTextSoFar}
@@ -44,19 +44,19 @@ IsCloseRefusal name opened from (NotBoundary at) = ⊥
 IsCloseRefusal name opened from OutOfMemory = ⊥
 
 -- A script's instruction was said and followed.
-pub record Follows (prefix body opened : List ℕ) (dom : DomState) (known : Sent) (dom' : DomState) (known' : Sent) : Type 0 where
+pub record Follows (prefix body opened : List ℕ) (dom : DomState) (known : SentFunctions) (dom' : DomState) (known' : SentFunctions) : Type 0 where
   pub instruction : Instruction
   pub said : Says prefix body known instruction
   pub acts : acted prefix opened instruction dom ≡ Ok dom'
   pub learned : known' ≡ with_function known (function_of instruction)
 
 -- It was said, and the document lacks what it needs.
-pub record FailsToApply (prefix body opened : List ℕ) (dom : DomState) (known : Sent) (fault : EditFault) : Type 0 where
+pub record FailsToApply (prefix body opened : List ℕ) (dom : DomState) (known : SentFunctions) (fault : EditFault) : Type 0 where
   pub instruction : Instruction
   pub said : Says prefix body known instruction
   pub acts : acted prefix opened instruction dom ≡ Err fault
 
-abbrev pub IsScriptRefusal : List ℕ → List ℕ → List ℕ → DomState → Sent → ℕ → MachineFault → Type 0
+abbrev pub IsScriptRefusal : List ℕ → List ℕ → List ℕ → DomState → SentFunctions → ℕ → MachineFault → Type 0
 IsScriptRefusal prefix body opened dom known from (Html at) = (at ≡ from) × IsNoBody prefix body
 IsScriptRefusal prefix body opened dom known from (UnknownFunction at) = (at ≡ from) × CallsUnknown prefix body known
 IsScriptRefusal prefix body opened dom known from (NoSuchId at id) = (at ≡ from) × FailsToApply prefix body opened dom known (edit.NoSuchId id)

@@ -16,7 +16,7 @@ ghost use Rattle.document_machine.specs.declared.fault.MachineFault.TheVariants.
 use crate::edits::{EditFault, act};
 use crate::fault::MachineFault;
 use dom_forest::{Dom, Mark, NewNode, NodeId};
-use fizz_instructions::{BodyFault, Instruction, Sent, read_script_body};
+use fizz_instructions::{BodyFault, Instruction, SentFunctions, read_script_body};
 use fizz_text::{Attributes, OutOfMemory, Text};
 use html_read::{Body, CommentKind, Token};
 use std::alloc::Global;
@@ -38,7 +38,7 @@ pub(crate) struct Page {
     dom: Dom,
     /// The innermost last.
     opened: Vec<OpenElement>,
-    known: Sent,
+    known: SentFunctions,
 }
 
 impl Model for Page {
@@ -62,7 +62,7 @@ impl Page {
         Page {
             dom: Dom::new(alloc),
             opened: Vec::new(alloc),
-            known: Sent::none(),
+            known: SentFunctions::none(),
         }
     }
 
@@ -237,7 +237,7 @@ fn run(
     alloc: Global,
     dom: &mut Dom,
     opened: &[OpenElement],
-    known: &mut Sent,
+    known: &mut SentFunctions,
     prefix: &Text,
     body: Body,
     from: usize,
@@ -261,7 +261,7 @@ fn read(
     alloc: Global,
     body: &[u8],
     prefix: &Text,
-    known: &mut Sent,
+    known: &mut SentFunctions,
     from: usize,
 ) -> Result<Instruction, MachineFault>
     ensures said { IfOk result (λ i. Says prefix.now body.now known.old i) }

@@ -1,7 +1,7 @@
 -- What the open elements of a printer still print, as they are begun.
 use Rattle.std.proofs.Common.{◌≡◌, ℕ, ◌+◌, Bool, false, if◌then◌else◌, List, [], ◌∷◌, ◌++◌, codes, map, sym, ap, ◌∙◌, arith, append_assoc, append-nil}
 use Rattle.fizz_text.specs.declared.attribute.Attr.{Attr}
-use Rattle.html_names.specs.Printing.{end_tag, tag_front}
+use Rattle.html_names.specs.Printing.{end_tag, tag_prefix}
 use Rattle.dom_forest.specs.Printing.{Printed, printed, printed_step, siblings_bytes, is_void}
 use Rattle.dom_forest.specs.declared.document.DocNode.{DocNode}
 use Rattle.dom_forest.specs.declared.document.DocNode.TheVariants.{Element, Text, rolls-Element, rolls-Text}
@@ -33,17 +33,17 @@ element_tail void name kids = if void then codes "/>" else codes ">" ++ siblings
 -- The siblings in hand begin with an element that isn't void.
 siblings-element : (after_text : Bool) (name : List ℕ) (attributes : List Attr) (kids later : List DocNode) → is_void name ≡ false
     → siblings_bytes after_text (map printed (Element name attributes kids ∷ later))
-    ≡ (tag_front name attributes ++ (codes ">" ++ siblings_bytes false (map printed kids) ++ end_tag name)) ++ siblings_bytes false (map printed later)
+    ≡ (tag_prefix name attributes ++ (codes ">" ++ siblings_bytes false (map printed kids) ++ end_tag name)) ++ siblings_bytes false (map printed later)
 siblings-element after_text name attributes kids later plain =
     ap (λ (p : Printed). p.bytes after_text ++ siblings_bytes p.is_text (map printed later)) (printed-element name attributes kids)
-    ∙ ap (λ void. (tag_front name attributes ++ element_tail void name (map printed kids)) ++ siblings_bytes false (map printed later)) plain
+    ∙ ap (λ void. (tag_prefix name attributes ++ element_tail void name (map printed kids)) ++ siblings_bytes false (map printed later)) plain
 
 -- An element that isn't void is begun.
 pub goes_in : (out more : List ℕ) (after_text : Bool) (name : List ℕ) (attributes : List Attr) (kids later : List DocNode) (open_now : List Open) (e : Open)
-    → is_void name ≡ false → more ≡ (out ++ tag_front name attributes) ++ codes ">" → ending e ≡ end_tag name ++ siblings_bytes false (map printed later)
+    → is_void name ≡ false → more ≡ (out ++ tag_prefix name attributes) ++ codes ">" → ending e ≡ end_tag name ++ siblings_bytes false (map printed later)
     → more ++ left_bytes false kids (open_now ++ e ∷ []) ≡ out ++ left_bytes after_text (Element name attributes kids ∷ later) open_now
 goes_in out more after_text name attributes kids later open_now e plain written ends =
-    let front = tag_front name attributes in
+    let front = tag_prefix name attributes in
     let inner = siblings_bytes false (map printed kids) in
     let outer = siblings_bytes false (map printed later) in
     ap (λ bytes. bytes ++ (inner ++ closing (open_now ++ e ∷ []))) written

@@ -2,8 +2,8 @@
 use Rattle.std.specs.Prelude.{ℕ, Bool, true, false, if◌then◌else◌, List, [], ◌∷◌, ◌++◌, codes, map, unwrap_or}
 use Rattle.fizz_text.specs.declared.attribute.Attr.{Attr}
 use Rattle.html_names.specs.Elements.{void_flag}
-use Rattle.html_names.specs.Escape.{escaped}
-use Rattle.html_names.specs.Printing.{tag_front, end_tag}
+use Rattle.html_names.specs.Escape.{escape_of}
+use Rattle.html_names.specs.Printing.{tag_prefix, end_tag}
 use Rattle.dom_forest.specs.declared.document.DocNode.{DocNode}
 use Rattle.dom_forest.specs.declared.document.DocNode.TheOpen.{DocNode-F, Element, Text}
 use Rattle.dom_forest.specs.declared.document.DocNode.TheFolds.{fold-DocNode}
@@ -14,7 +14,7 @@ is_void name = unwrap_or (void_flag name) false
 
 -- `<!-- -->` keeps a text apart from a text before it, so that a reader of the page finds two texts.
 abbrev pub text_bytes : Bool → List ℕ → List ℕ
-text_bytes after_text text = (if after_text then codes "<!-- -->" else []) ++ escaped text
+text_bytes after_text text = (if after_text then codes "<!-- -->" else []) ++ escape_of text
 
 -- A node as it is printed: whether it is a text, and its bytes, given whether it follows a text.
 pub record Printed : Type 0 where
@@ -29,7 +29,7 @@ siblings_bytes after_text (p ∷ ps) = p.bytes after_text ++ siblings_bytes p.is
 -- A void element is its tag alone, whatever it holds.
 abbrev pub element_bytes : List ℕ → List Attr → List Printed → List ℕ
 element_bytes name attributes kids =
-    tag_front name attributes ++ (if is_void name then codes "/>" else codes ">" ++ siblings_bytes false kids ++ end_tag name)
+    tag_prefix name attributes ++ (if is_void name then codes "/>" else codes ">" ++ siblings_bytes false kids ++ end_tag name)
 
 -- One node, with its children printed.
 abbrev pub printed_step : DocNode-F Printed → Printed

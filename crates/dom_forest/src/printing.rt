@@ -1,10 +1,10 @@
 //! The printing of a document of elements and texts.
 
 ghost use Rattle.std.specs.Prelude.{◌≡◌, ◌<◌, ◌++◌, ◌∷◌, [], Bool, false, IfOk, OnOk};
-ghost use Rattle.html_names.specs.Escape.{escaped};
+ghost use Rattle.html_names.specs.Escape.{escape_of};
 ghost use Rattle.dom_forest.specs.declared.document.DocNode.TheVariants.{Element};
 ghost use Rattle.dom_forest.specs.OpenElements.{left_bytes, work_left};
-ghost use Rattle.html_names.specs.Printing.{end_tag, tag_front, written_attribute, written_attributes};
+ghost use Rattle.html_names.specs.Printing.{end_tag, tag_prefix, attribute_spelling, attributes_spelling};
 ghost use Rattle.dom_forest.specs.Printing.{is_void, printed_nodes, text_bytes};
 
 use crate::document::{Doc, DocNode};
@@ -103,7 +103,7 @@ fn push_text(out: &mut Vec<u8>, after_text: bool, text: &Text) -> Result<(), Out
 
 /// Appends `<`, the name and the attributes.
 fn push_tag_front(out: &mut Vec<u8>, name: &Text, attributes: &[Attr]) -> Result<(), OutOfMemory>
-    ensures { OnOk result (out.new.items ≡ out.old.items ++ tag_front name.now attributes.now) }
+    ensures { OnOk result (out.new.items ≡ out.old.items ++ tag_prefix name.now attributes.now) }
 {
     out.push(b'<')?;
     out.extend_from_slice(name.as_bytes())?;
@@ -111,7 +111,7 @@ fn push_tag_front(out: &mut Vec<u8>, name: &Text, attributes: &[Attr]) -> Result
 }
 
 fn push_attributes(out: &mut Vec<u8>, attributes: &[Attr]) -> Result<(), OutOfMemory>
-    ensures { OnOk result (out.new.items ≡ out.old.items ++ written_attributes attributes.now) }
+    ensures { OnOk result (out.new.items ≡ out.old.items ++ attributes_spelling attributes.now) }
 {
     for attribute in attributes {
         push_attribute(out, attribute)?;
@@ -120,7 +120,7 @@ fn push_attributes(out: &mut Vec<u8>, attributes: &[Attr]) -> Result<(), OutOfMe
 }
 
 fn push_attribute(out: &mut Vec<u8>, attribute: &Attr) -> Result<(), OutOfMemory>
-    ensures { OnOk result (out.new.items ≡ out.old.items ++ written_attribute attribute.now) }
+    ensures { OnOk result (out.new.items ≡ out.old.items ++ attribute_spelling attribute.now) }
 {
     out.push(b' ')?;
     out.extend_from_slice(attribute.name.as_bytes())?;
@@ -143,7 +143,7 @@ fn push_end_tag(out: &mut Vec<u8>, name: &Text) -> Result<(), OutOfMemory>
 
 /// Appends the escaped text.
 fn push_spelled(out: &mut Vec<u8>, text: &Text) -> Result<(), OutOfMemory>
-    ensures { OnOk result (out.new.items ≡ out.old.items ++ escaped text.now) }
+    ensures { OnOk result (out.new.items ≡ out.old.items ++ escape_of text.now) }
 {
     match push_escaped(out, text.as_bytes()) {
         Ok(()) => Ok(()),

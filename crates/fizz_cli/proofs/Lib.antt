@@ -1,10 +1,11 @@
 pub mod Attributes
-pub mod Causes
+pub mod CallsLemmas
+pub mod RefusalsLemmas
+pub mod StepsLemmas
 pub mod Documents
 pub mod LexemeLists
 pub mod LongestRuns
 pub mod OnePage
-pub mod OneRefusal
 pub mod PageForests
 pub mod Pages
 pub mod Tags

@@ -6,8 +6,8 @@ use Rattle.std.specs.Map.{lookup}
 use Rattle.std.specs.Str.{bytes_eq}
 use Rattle.std.proofs.lemmas.Slice.Eq.{bytes_eq-Decides}
 use Rattle.html_names.specs.Elements.{void_flag, element_rows}
-use Rattle.html_names.specs.Attributes.{Meaning, attribute_of, attribute_rows, is_spoken_name}
-use Rattle.html_names.specs.declared.attributes.AttrKind.TheVariants.{Plain, Spoken}
+use Rattle.html_names.specs.Attributes.{Meaning, attribute_of, attribute_rows, is_prefixed_name}
+use Rattle.html_names.specs.declared.attributes.AttrKind.TheVariants.{Plain, Booleanish}
 use Rattle.fizz_cli.specs.Source.{IsPlain}
 use Rattle.fizz_cli.specs.Lexemes.{IsRun, Ends, is_name_byte, is_attribute_byte}
 
@@ -94,17 +94,17 @@ plain_row : (name : List ℕ) (o : Option Meaning) → lookup (bytes_eq name) at
 plain_row name None is plain = absurd plain
 plain_row name (Some m) is plain = found_passes (list_all is_attribute_byte) attribute_rows name m attribute_rows_pass is
 
-not_spoken : (m : Meaning) → m.1 ≡ Spoken → m.1 ≡ Plain → ⊥
+not_spoken : (m : Meaning) → m.1 ≡ Booleanish → m.1 ≡ Plain → ⊥
 not_spoken m a b = cc
 
-plain_cases : (name : List ℕ) (spoken : Bool) → IsPlain (if spoken then Some (None, Spoken) else lookup (bytes_eq name) attribute_rows) →
+plain_cases : (name : List ℕ) (spoken : Bool) → IsPlain (if spoken then Some (None, Booleanish) else lookup (bytes_eq name) attribute_rows) →
     list_all is_attribute_byte name ≡ true
-plain_cases name true plain = absurd (not_spoken (None, Spoken) refl plain)
+plain_cases name true plain = absurd (not_spoken (None, Booleanish) refl plain)
 plain_cases name false plain = plain_row name (lookup (bytes_eq name) attribute_rows) refl plain
 
 -- the name of a plain attribute has no `=`
 pub plain_passes : (name : List ℕ) → IsPlain (attribute_of name) → list_all is_attribute_byte name ≡ true
-plain_passes name plain = plain_cases name (is_spoken_name name) plain
+plain_passes name plain = plain_cases name (is_prefixed_name name) plain
 
 -- what follows a run, in another spelling
 pub cut_run : (test : ℕ → Bool) (bytes run after more : List ℕ) → IsRun test bytes run after → after ≡ more → IsRun test bytes run more

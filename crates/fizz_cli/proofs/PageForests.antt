@@ -9,13 +9,13 @@ use Rattle.std.proofs.lemmas.Option.{same_Some}
 use Rattle.std.proofs.lemmas.Slice.Eq.{bytes_eq-Decides}
 use Rattle.std.proofs.lemmas.Str.{IsUtf8-append, IsUtf8-take, IsUtf8-drop, IsUtf8-from_ascii, IsCharBoundary-before_ascii, IsCharBoundary-after_ascii}
 use Rattle.std.proofs.Math.Seq.{take-append_seam, drop-append-add, get_or-append_seam}
-use Rattle.html_names.specs.Attributes.{Meaning, attribute_of, attribute_rows, is_spoken_name, printed_name}
+use Rattle.html_names.specs.Attributes.{Meaning, attribute_of, attribute_rows, is_prefixed_name, printed_name}
 use Rattle.html_names.specs.declared.attributes.AttrKind.{AttrKind}
-use Rattle.html_names.specs.declared.attributes.AttrKind.TheVariants.{Plain, Flag, Spoken, Id, Key}
+use Rattle.html_names.specs.declared.attributes.AttrKind.TheVariants.{Plain, Boolean, Booleanish, Id, Key}
 use Rattle.html_names.specs.Elements.{void_flag, element_rows, IsElementName}
-use Rattle.html_names.specs.Escape.{escaped}
+use Rattle.html_names.specs.Escape.{escape_of}
 use Rattle.html_names.specs.Names as names
-use Rattle.html_names.specs.Printing.{end_tag, tag_front}
+use Rattle.html_names.specs.Printing.{end_tag, tag_prefix}
 use Rattle.html_read.specs.Names as read
 use Rattle.html_read.specs.Tokens as tokens
 use Rattle.dom_forest.specs.Forest.{Forest, empty, tree}
@@ -50,11 +50,11 @@ regroup front inner back after = simp append_assoc
 open_bytes : (name : List ℕ) (ws : List Written) (inner after : List ℕ) → void_flag name ≡ Some false →
     lexeme_html (start name ws) ++ (inner ++ (lexeme_html (finish name) ++ after)) ≡ element_bytes name (map attr_of ws) inner ++ after
 open_bytes name ws inner after known =
-    rw known (regroup (tag_front name (map attr_of ws) ++ codes ">") inner (end_tag name) after)
+    rw known (regroup (tag_prefix name (map attr_of ws) ++ codes ">") inner (end_tag name) after)
 
 pub flat_bytes : (room : ℕ) (s : Source) (more : List Lexeme) → MayStand room s → lexemes_html (flat s more) ≡ page_bytes (page_forest s) ++ lexemes_html more
 flat_bytes room end more m = refl
-flat_bytes room (text t later) more m = ap (λ bs. escaped t ++ bs) (flat_bytes room later more m.3) ∙ sym (append_assoc (escaped t) (page_bytes (page_forest later)) (lexemes_html more))
+flat_bytes room (text t later) more m = ap (λ bs. escape_of t ++ bs) (flat_bytes room later more m.3) ∙ sym (append_assoc (escape_of t) (page_bytes (page_forest later)) (lexemes_html more))
 flat_bytes zero (closed name ws later) more m = absurd m
 flat_bytes (suc room) (closed name ws later) more m =
     ap (λ bs. element_bytes name (map attr_of ws) [] ++ bs) (flat_bytes (suc room) later more m.2)
@@ -103,8 +103,8 @@ not_template name flag found = was_false _ (found_passes no_template element_row
 
 abbrev is_plain_kind : AttrKind → Bool
 is_plain_kind Plain = true
-is_plain_kind Flag = false
-is_plain_kind Spoken = false
+is_plain_kind Boolean = false
+is_plain_kind Booleanish = false
 is_plain_kind Id = false
 is_plain_kind Key = false
 
@@ -119,13 +119,13 @@ not_hidden_row : (name : List ℕ) (m : Meaning) → m.1 ≡ Plain → no_hidden
 not_hidden_row name m is h =
     was_false (bytes_eq (printed_name name m) (codes "hidden")) (subst (λ (k : AttrKind). not (is_plain_kind k && bytes_eq (printed_name name m) (codes "hidden")) ≡ true) is h)
 
-spoken_kind : (m : Meaning) → Some (None, Spoken) ≡ Some m → m.1 ≡ Plain → ⊥
+spoken_kind : (m : Meaning) → Some (None, Booleanish) ≡ Some m → m.1 ≡ Plain → ⊥
 spoken_kind m e is = no_kind (ap (λ (n : Meaning). n.1) (same_Some _ m e) ∙ is)
   where
-    no_kind : Spoken ≡ Plain → ⊥
+    no_kind : Booleanish ≡ Plain → ⊥
     no_kind h = cc
 
-hidden_cases : (name : List ℕ) (m : Meaning) (spoken : Bool) → cond spoken (Some (None, Spoken)) (lookup (bytes_eq name) attribute_rows) ≡ Some m → m.1 ≡ Plain →
+hidden_cases : (name : List ℕ) (m : Meaning) (spoken : Bool) → cond spoken (Some (None, Booleanish)) (lookup (bytes_eq name) attribute_rows) ≡ Some m → m.1 ≡ Plain →
     bytes_eq (printed_name name m) (codes "hidden") ≡ false
 hidden_cases name m true e is = absurd (spoken_kind m e is)
 hidden_cases name m false e is = not_hidden_row name m is (found_passes no_hidden attribute_rows name m no_row_hidden e)
@@ -133,7 +133,7 @@ hidden_cases name m false e is = not_hidden_row name m is (found_passes no_hidde
 -- no attribute of a source is `hidden`
 not_hidden : (name : List ℕ) (o : Option Meaning) → attribute_of name ≡ o → IsPlain o → bytes_eq (name_of name o) (codes "hidden") ≡ false
 not_hidden name None e is = absurd is
-not_hidden name (Some m) e is = hidden_cases name m (is_spoken_name name) e is
+not_hidden name (Some m) e is = hidden_cases name m (is_prefixed_name name) e is
 
 none_hidden : (earlier ws : List Written) → AreAttributes earlier ws → views.has_name (codes "hidden") (map attr_of ws) ≡ false
 none_hidden earlier [] are = refl
@@ -250,30 +250,10 @@ after_front body u = (cut (codes "function App() { return") 32 body (omega arith
 
 -- it may be printed
 
-below : (a b : ℕ) → nat_lt a (suc b) ≡ nat_le a b
-below a b = grind (arith, nat_tests)
-
-letters : (b : ℕ) → names.is_letter b ≡ read.is_letter b
-letters b = rw (below b 90, below b 122) refl
-
-three : (x y z : Bool) → (x || y || z) ≡ (x || (y || z))
-three true y z = refl
-three false y z = refl
-
-name_bytes : (b : ℕ) → names.is_name_byte b ≡ read.continues_attribute_name b
-name_bytes b = rw (letters b, below b 57) (three (read.is_letter b) (nat_le 48 b && nat_le b 57) (b == 45))
-
-all_name_bytes : (bs : List ℕ) → list_all names.is_name_byte bs ≡ true → list_all read.continues_attribute_name bs ≡ true
-all_name_bytes [] h = refl
-all_name_bytes (b ∷ bs) h =
-    let parts = both (names.is_name_byte b) (list_all names.is_name_byte bs) h in
-    rw (← name_bytes b, parts.0) (all_name_bytes bs parts.1)
-
 is_attribute_name : (name : List ℕ) → names.is_plain_name name ≡ true → read.IsAttributeName name
 is_attribute_name [] h = absurd (opposite false h refl)
 is_attribute_name (b ∷ bs) h =
-    let parts = both (names.is_letter b) (list_all names.is_name_byte bs) h in
-    (sym (letters b) ∙ parts.0, all_name_bytes bs parts.1)
+    both (names.is_letter b) (list_all names.is_name_byte bs) h
 
 -- each attribute's printed name is a letter followed by letters, digits and `-`
 abbrev pub NameLaw : Type 0

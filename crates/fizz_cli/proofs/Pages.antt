@@ -18,11 +18,12 @@ use Rattle.document_machine.specs.declared.fault.MachineFault.{MachineFault}
 use Rattle.document_machine.specs.declared.fault.MachineFault.TheVariants as fault
 use Rattle.document_machine.specs.declared.view.View.{View as Seen}
 use Rattle.fizz_cli.specs.Documents.{IsDocument}
-use Rattle.fizz_cli.specs.Showing.{IsRefusedPage, ShowsDocument, StaysPending}
-use Rattle.fizz_cli.specs.Stops.{AcceptsOrRefuses, IsFedCause, IsPendingView, stop_of}
-use Rattle.fizz_cli.specs.declared.inputs.Stop.{Stop}
-use Rattle.fizz_cli.specs.declared.refusal.Refusal.{Refusal}
-use Rattle.fizz_cli.specs.declared.refusal.Refusal.TheVariants.{CannotRead, TooLong, NotUtf8, Unbuilt, Html, UnknownFunction, NoSuchId, NotBoundary, StillPending}
+use Rattle.fizz_cli.specs.PageFiles.{RefusesPageBytes, ShowsDocument, StaysPending}
+use Rattle.fizz_cli.specs.Feeding.{IsFedCause, IsPendingView, fault_of}
+use Rattle.fizz_cli.specs.Steps.{AcceptsOrRefuses}
+use Rattle.fizz_cli.specs.declared.stop.OrMemory.{OrMemory}
+use Rattle.fizz_cli.specs.declared.refusal.PageFault.{PageFault}
+use Rattle.fizz_cli.specs.declared.refusal.PageFault.TheVariants.{Html, UnknownFunction, NoSuchId, NotBoundary, StillPending}
 
 -- a fault of a front is one of the bytes
 
@@ -115,24 +116,24 @@ feeding_stops old bytes machine new rest piece more fault.OutOfMemory f parts s 
 
 -- what stops the machine, the page is refused for
 
-pub fed_stops : {A : Type 0} (accepts : A → Type 0) (prefix bytes : List ℕ) (met : MachineFault) (stop : Stop) → stop ≡ stop_of met → IsFedCause prefix bytes met →
-    AcceptsOrRefuses accepts (IsRefusedPage prefix bytes) (Err stop)
-fed_stops accepts prefix bytes met stop is cause = subst (λ (s : Stop). AcceptsOrRefuses accepts (IsRefusedPage prefix bytes) (Err s)) (sym is) (by_cases met cause)
+pub fed_stops : {A : Type 0} (accepts : A → Type 0) (prefix bytes : List ℕ) (met : MachineFault) (stop : OrMemory PageFault) → stop ≡ fault_of met → IsFedCause prefix bytes met →
+    AcceptsOrRefuses accepts (RefusesPageBytes prefix bytes) (Err stop)
+fed_stops accepts prefix bytes met stop is cause = subst (λ (s : OrMemory PageFault). AcceptsOrRefuses accepts (RefusesPageBytes prefix bytes) (Err s)) (sym is) (by_cases met cause)
   where
-    by_cases : (met : MachineFault) → IsFedCause prefix bytes met → AcceptsOrRefuses accepts (IsRefusedPage prefix bytes) (Err (stop_of met))
+    by_cases : (met : MachineFault) → IsFedCause prefix bytes met → AcceptsOrRefuses accepts (RefusesPageBytes prefix bytes) (Err (fault_of met))
     by_cases (fault.Html at) cause = inl cause
     by_cases (fault.UnknownFunction at) cause = cause
     by_cases (fault.NoSuchId at id) cause = cause
     by_cases (fault.NotBoundary at) cause = cause
     by_cases fault.OutOfMemory cause = tt
 
-pub finish_stops : {A : Type 0} (accepts : A → Type 0) (machine : MachineState) (prefix bytes : List ℕ) (met : MachineFault) (stop : Stop) → stop ≡ stop_of met → machine.prefix ≡ prefix →
-    FinishRefusal machine bytes met → AcceptsOrRefuses accepts (IsRefusedPage prefix bytes) (Err stop)
+pub finish_stops : {A : Type 0} (accepts : A → Type 0) (machine : MachineState) (prefix bytes : List ℕ) (met : MachineFault) (stop : OrMemory PageFault) → stop ≡ fault_of met → machine.prefix ≡ prefix →
+    FinishRefusal machine bytes met → AcceptsOrRefuses accepts (RefusesPageBytes prefix bytes) (Err stop)
 finish_stops accepts machine prefix bytes met stop is kept cause =
-    subst (λ (s : Stop). AcceptsOrRefuses accepts (IsRefusedPage prefix bytes) (Err s)) (sym is)
-    (subst (λ (p : List ℕ). AcceptsOrRefuses accepts (IsRefusedPage p bytes) (Err (stop_of met))) kept (by_cases met cause))
+    subst (λ (s : OrMemory PageFault). AcceptsOrRefuses accepts (RefusesPageBytes prefix bytes) (Err s)) (sym is)
+    (subst (λ (p : List ℕ). AcceptsOrRefuses accepts (RefusesPageBytes p bytes) (Err (fault_of met))) kept (by_cases met cause))
   where
-    by_cases : (met : MachineFault) → FinishRefusal machine bytes met → AcceptsOrRefuses accepts (IsRefusedPage machine.prefix bytes) (Err (stop_of met))
+    by_cases : (met : MachineFault) → FinishRefusal machine bytes met → AcceptsOrRefuses accepts (RefusesPageBytes machine.prefix bytes) (Err (fault_of met))
     by_cases (fault.Html at) cause = inr cause
     by_cases (fault.UnknownFunction at) cause = absurd cause
     by_cases (fault.NoSuchId at id) cause = absurd cause
@@ -153,18 +154,11 @@ shows prefix bytes view nodes out s settled printed =
     (nodes, record { built = s.built; whole = s.run; settled = ap settled_of (sym s.is) ∙ settled }, printed)
 
 -- what is pending in the view is pending in the page
-pub pending_page : (prefix bytes : List ℕ) (view : Seen) (refusal : Refusal) → SeesWhole (nothing_run prefix) bytes view → IsPendingView (seen view.items) refusal → IsRefusedPage prefix bytes refusal
-pending_page prefix bytes view (CannotRead input) s p = p
-pending_page prefix bytes view (TooLong input) s p = p
-pending_page prefix bytes view (NotUtf8 valid) s p = p
-pending_page prefix bytes view (Unbuilt input) s p = p
-pending_page prefix bytes view (Html at) s p = absurd p
-pending_page prefix bytes view (UnknownFunction at) s p = absurd p
-pending_page prefix bytes view (NoSuchId at id) s p = absurd p
-pending_page prefix bytes view (NotBoundary at) s p = absurd p
-pending_page prefix bytes view (StillPending count) s p =
-    let q : IsPendingView (view_of prefix s.built.dom.forest) (StillPending count) = subst (λ (v : View). IsPendingView v (StillPending count)) s.is p in
-    record { built = s.built; whole = s.run; some = q.0; counts = q.1 }
+pub pending_page : (prefix bytes : List ℕ) (view : Seen) (found : PageFault) → SeesWhole (nothing_run prefix) bytes view → IsPendingView (seen view.items) found →
+    RefusesPageBytes prefix bytes found
+pending_page prefix bytes view found s p =
+    let q : IsPendingView (view_of prefix s.built.dom.forest) found = subst (λ (v : View). IsPendingView v found) s.is p in
+    subst (λ (f : PageFault). RefusesPageBytes prefix bytes f) (sym q.1) (record { built = s.built; whole = s.run; some = q.2; counts = q.3 })
 
 -- a page that has a settled document is not refused
 
@@ -190,11 +184,7 @@ not_pending prefix laws bytes nodes count d p =
     unsettled (number_of is_pending (view_of prefix d.built.dom.forest)) (nodes_of (view_of prefix d.built.dom.forest)) nodes
     (subst (λ (b : PageState). number_of is_pending (view_of prefix b.dom.forest) ≢ 0) same p.some) d.settled
 
-pub shown_sound : (prefix : List ℕ) → MachineLaws prefix → (bytes out : List ℕ) (refusal : Refusal) → ShowsDocument prefix bytes out → IsRefusedPage prefix bytes refusal → ⊥
-shown_sound prefix laws bytes out (CannotRead input) s r = r
-shown_sound prefix laws bytes out (TooLong input) s r = r
-shown_sound prefix laws bytes out (NotUtf8 valid) s r = r
-shown_sound prefix laws bytes out (Unbuilt input) s r = r
+pub shown_sound : (prefix : List ℕ) → MachineLaws prefix → (bytes out : List ℕ) (refusal : PageFault) → ShowsDocument prefix bytes out → RefusesPageBytes prefix bytes refusal → ⊥
 shown_sound prefix laws bytes out (Html at) s (inl f) = laws.sound s.1.built bytes s.1.whole.run (fault.Html at) f
 shown_sound prefix laws bytes out (Html at) s (inr e) = laws.whole s.1.built bytes at s.1.whole e
 shown_sound prefix laws bytes out (UnknownFunction at) s f = laws.sound s.1.built bytes s.1.whole.run (fault.UnknownFunction at) f

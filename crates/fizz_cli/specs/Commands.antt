@@ -1,11 +1,9 @@
--- What words mean as a command.
+-- What words mean as a command, and which commands are served on the calling thread.
 use Rattle.std.specs.Prelude.{◌≡◌, ℕ, ◌≤◌, List, [], ◌∷◌, length, codes, Option, Some, None, if◌then◌else◌}
 use Rattle.std.specs.Str.{bytes_eq}
 use Rattle.fizz_cli.specs.declared.command.Command.{Command}
 use Rattle.fizz_cli.specs.declared.command.Command.TheVariants.{Render, Show}
 use Rattle.fizz_cli.specs.declared.command.Options.{Options}
-use Rattle.fizz_cli.specs.declared.refusal.Input.{Input}
-use Rattle.fizz_cli.specs.declared.refusal.Input.TheVariants.{App, Script, Page}
 
 abbrev pub standard_options : Options
 standard_options = record { prefix = []; progressive = 12800; chunk = 2048 }
@@ -24,14 +22,23 @@ command_of (word ∷ file ∷ []) = show_of word file
 command_of (word ∷ app ∷ script ∷ []) = render_of word app script
 command_of _ = None
 
--- The name of a command's file. `show` has its page file alone, and `render` has none of that kind.
-abbrev pub input_name : Command → Input → List ℕ
-input_name (Render app script options workers) App = app
-input_name (Render app script options workers) Script = script
-input_name (Render app script options workers) Page = app
-input_name (Show file prefix) input = file
+-- how many threads serve the command beside the calling one
+abbrev pub workers_of : Command → ℕ
+workers_of (Render app script options workers) = workers
+workers_of (Show file prefix) = 0
 
--- a command that is served on the calling thread, with options in their ranges
-abbrev pub IsInline : Command → Type 0
-IsInline (Render app script options workers) = (workers ≡ 0) × (length options.prefix ≤ 64) × (1 ≤ options.chunk)
-IsInline (Show file prefix) = length prefix ≤ 64
+-- what stands before the renderer's own ids
+abbrev pub prefix_of : Command → List ℕ
+prefix_of (Render app script options workers) = options.prefix
+prefix_of (Show file prefix) = prefix
+
+-- how many bytes go to the output at once, at most; 1 where the command has no such number
+abbrev pub chunk_of : Command → ℕ
+chunk_of (Render app script options workers) = options.chunk
+chunk_of (Show file prefix) = 1
+
+-- The command is served on the calling thread, and its numbers are in their ranges.
+pub record IsInline (command : Command) : Type 0 where
+  pub alone : workers_of command ≡ 0
+  pub short : length (prefix_of command) ≤ 64
+  pub some : 1 ≤ chunk_of command

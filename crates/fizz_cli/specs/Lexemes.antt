@@ -3,8 +3,8 @@ use Rattle.std.specs.Prelude.{◌≡◌, ◌≢◌, ℕ, Bool, true, false, not,
 use Rattle.std.specs.List.{flat_map, list_all}
 use Rattle.std.specs.Str.{bytes_eq}
 use Rattle.html_names.specs.Elements.{void_flag, IsElementName}
-use Rattle.html_names.specs.Escape.{escaped}
-use Rattle.html_names.specs.Printing.{end_tag, tag_front}
+use Rattle.html_names.specs.Escape.{escape_of}
+use Rattle.html_names.specs.Printing.{end_tag, tag_prefix}
 use Rattle.document_machine.specs.Printing.{element_bytes}
 use Rattle.fizz_cli.specs.Source.{Source, end, text, closed, element, Written, AreAttributes, attributes_bytes, attr_of, is_text_byte, most_open}
 
@@ -100,9 +100,9 @@ Follows names after_text (x ∷ xs) =
 
 -- a lexeme in HTML
 abbrev pub lexeme_html : Lexeme → List ℕ
-lexeme_html (words t) = escaped t
+lexeme_html (words t) = escape_of t
 lexeme_html (whole name ws) = element_bytes name (map attr_of ws) []
-lexeme_html (start name ws) = tag_front name (map attr_of ws) ++ codes ">"
+lexeme_html (start name ws) = tag_prefix name (map attr_of ws) ++ codes ">"
 lexeme_html (finish name) = end_tag name
 
 abbrev pub lexemes_html : List Lexeme → List ℕ

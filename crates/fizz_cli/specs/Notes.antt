@@ -1,24 +1,117 @@
 -- The line that tells why a call was refused.
-use Rattle.std.specs.Prelude.{ℕ, List, ◌++◌, codes}
+use Rattle.std.specs.Prelude.{ℕ, ◌/◌, ◌%◌, List, [], ◌∷◌, ◌++◌, codes}
+use Rattle.std.specs.List.{flat_map}
 use Rattle.std.specs.Fmt.{decimal}
-use Rattle.fizz_cli.specs.Refusals.{most_bytes}
-use Rattle.fizz_cli.specs.Commands.{input_name}
-use Rattle.fizz_cli.specs.declared.command.Command.{Command}
-use Rattle.fizz_cli.specs.declared.refusal.Input.TheVariants.{App, Page}
+use Rattle.std.specs.Char.{digit_char}
+use Rattle.fizz_cli.specs.declared.note.FieldValue.{FieldValue}
+use Rattle.fizz_cli.specs.declared.note.FieldValue.TheVariants.{Number, Words, Steps, Hash}
+use Rattle.fizz_cli.specs.declared.note.Field.{Field}
+use Rattle.fizz_cli.specs.declared.refusal.AppFault.{AppFault}
+use Rattle.fizz_cli.specs.declared.refusal.AppFault.TheVariants as app
+use Rattle.fizz_cli.specs.declared.refusal.FileFault.{FileFault}
+use Rattle.fizz_cli.specs.declared.refusal.FileFault.TheVariants.{TooLong, App, Script, Page}
+use Rattle.fizz_cli.specs.declared.refusal.PageFault.{PageFault}
+use Rattle.fizz_cli.specs.declared.refusal.PageFault.TheVariants as page
 use Rattle.fizz_cli.specs.declared.refusal.Refusal.{Refusal}
-use Rattle.fizz_cli.specs.declared.refusal.Refusal.TheVariants.{CannotRead, TooLong, NotUtf8, Unbuilt, Html, UnknownFunction, NoSuchId, NotBoundary, StillPending}
+use Rattle.fizz_cli.specs.declared.refusal.Refusal.TheVariants.{CannotRead, File, ShellFailed, ShellPostponed, CannotWrite, StateTooLong}
+use Rattle.fizz_cli.specs.declared.refusal.ScriptFault.{ScriptFault}
+use Rattle.fizz_cli.specs.declared.refusal.ScriptFault.TheVariants as script
 
--- `cannot read NAME`, or `NAME: FAULT` with its fields, and a line feed
-abbrev pub note_of : Command → Refusal → List ℕ
-note_of command (CannotRead input) = codes "cannot read " ++ (input_name command input ++ codes "\n")
-note_of command (TooLong input) = input_name command input ++ (codes ": TooLong most=" ++ (decimal (most_bytes input) ++ codes "\n"))
-note_of command (NotUtf8 valid) = input_name command App ++ (codes ": NotUtf8 valid=" ++ (decimal valid ++ codes "\n"))
-note_of command (Unbuilt input) = input_name command input ++ codes ": Unbuilt\n"
-note_of command (Html at) = input_name command Page ++ (codes ": Html at=" ++ (decimal at ++ codes "\n"))
-note_of command (UnknownFunction at) = input_name command Page ++ (codes ": UnknownFunction at=" ++ (decimal at ++ codes "\n"))
-note_of command (NoSuchId at id) = input_name command Page ++ (codes ": NoSuchId at=" ++ (decimal at ++ (codes " id=" ++ (id ++ codes "\n"))))
-note_of command (NotBoundary at) = input_name command Page ++ (codes ": NotBoundary at=" ++ (decimal at ++ codes "\n"))
-note_of command (StillPending count) = input_name command Page ++ (codes ": StillPending count=" ++ (decimal count ++ codes "\n"))
+-- what a field says
+pub data Value : Type 0 where
+  number : ℕ → Value
+  words : List ℕ → Value
+  steps : List ℕ → Value
+  hash : List ℕ → Value
+
+-- a field of a note: its name and what it says
+pub record Entry : Type 0 where
+  pub name : List ℕ
+  pub value : Value
+
+-- what a note says of a file: a label and fields
+pub record Row : Type 0 where
+  pub label : List ℕ
+  pub fields : List Entry
+
+abbrev pub two_digits : ℕ → List ℕ
+two_digits byte = digit_char (byte / 16) ∷ digit_char (byte % 16) ∷ []
+
+-- a step of a path after the first
+abbrev pub after_dot : ℕ → List ℕ
+after_dot step = codes "." ++ decimal step
+
+-- the steps of a path, joined by dots
+abbrev pub dotted : List ℕ → List ℕ
+dotted [] = []
+dotted (first ∷ later) = decimal first ++ flat_map after_dot later
+
+-- A number in decimals, a text as it is, the steps of a path joined by dots, the bytes of a hash in hexadecimal.
+abbrev pub value_text : Value → List ℕ
+value_text (number n) = decimal n
+value_text (words text) = text
+value_text (steps path) = dotted path
+value_text (hash bytes) = flat_map two_digits bytes
+
+-- a space, the name, `=`, the value
+abbrev pub entry_text : Entry → List ℕ
+entry_text entry = codes " " ++ (entry.name ++ (codes "=" ++ value_text entry.value))
+
+abbrev pub row_text : Row → List ℕ
+row_text row = row.label ++ flat_map entry_text row.fields
+
+-- what a field of the code says
+abbrev pub value_of : FieldValue → Value
+value_of (Number n) = number n
+value_of (Words text) = words text.now
+value_of (Steps path) = steps path.now
+value_of (Hash bytes) = hash bytes.now
+
+abbrev pub entry_of : Field → Entry
+entry_of field = record { name = field.name.now; value = value_of field.value }
+
+-- a row without fields, and one with a place
+abbrev pub bare : List ℕ → Row
+bare label = record { label = label; fields = [] }
+
+abbrev pub placed : List ℕ → ℕ → Row
+placed label at = record { label = label; fields = record { name = codes "at"; value = number at } ∷ [] }
+
+abbrev pub app_row : AppFault → Row
+app_row (app.NotUtf8 valid) = record { label = codes "NotUtf8"; fields = record { name = codes "valid"; value = number valid } ∷ [] }
+app_row app.Unbuilt = bare (codes "Unbuilt")
+
+abbrev pub script_row : ScriptFault → Row
+script_row script.Unbuilt = bare (codes "Unbuilt")
+
+abbrev pub page_row : PageFault → Row
+page_row (page.Html at) = placed (codes "Html") at
+page_row (page.UnknownFunction at) = placed (codes "UnknownFunction") at
+page_row (page.NoSuchId at id) = record {
+  label = codes "NoSuchId";
+  fields = record { name = codes "at"; value = number at } ∷ record { name = codes "id"; value = words id } ∷ [];
+}
+page_row (page.NotBoundary at) = placed (codes "NotBoundary") at
+page_row (page.StillPending count) =
+    record { label = codes "StillPending"; fields = record { name = codes "count"; value = number count } ∷ [] }
+
+abbrev pub row_of : FileFault → Row
+row_of (TooLong most) = record { label = codes "TooLong"; fields = record { name = codes "most"; value = number most } ∷ [] }
+row_of (App fault) = app_row fault
+row_of (Script fault) = script_row fault
+row_of (Page fault) = page_row fault
+
+-- a label and one value, as a line
+abbrev pub line_of : List ℕ → Value → List ℕ
+line_of label value = label ++ (value_text value ++ codes "\n")
+
+abbrev pub note_of : Refusal → List ℕ
+note_of (CannotRead name) = line_of (codes "cannot read ") (words name)
+note_of (File name fault) = name ++ (codes ": " ++ (row_text (row_of fault) ++ codes "\n"))
+note_of (ShellFailed digest) = line_of (codes "shell failed: ") (words digest)
+note_of (ShellPostponed resource) = line_of (codes "shell postponed: ") (words resource)
+note_of (CannotWrite name) = line_of (codes "cannot write ") (words name)
+note_of (StateTooLong length) = line_of (codes "state too long: ") (number length)
 
 -- where the words are no command
 abbrev pub usage_note : List ℕ

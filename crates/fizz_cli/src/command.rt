@@ -1,7 +1,6 @@
 ghost use Rattle.std.specs.Prelude.{◌≡◌};
-ghost use Rattle.fizz_cli.specs.Commands.{input_name, standard_options};
+ghost use Rattle.fizz_cli.specs.Commands.{standard_options};
 
-use crate::refusal::Input;
 use fizz_text::Text;
 
 /// What one call of fizz is to do.
@@ -43,22 +42,6 @@ impl Options {
             prefix: Text::fixed(""),
             progressive: 12_800,
             chunk: 2_048,
-        }
-    }
-}
-
-impl Command {
-    /// The name of one of its files. `show` has its page file alone, and `render` has none of that kind: there the name
-    /// of the component file stands.
-    pub fn name(&self, input: Input) -> &Text
-        ensures { result.now ≡ input_name self.now input }
-    {
-        match self {
-            Command::Render { app, script, .. } => match input {
-                Input::App | Input::Page => app,
-                Input::Script => script,
-            },
-            Command::Show { file, .. } => file,
         }
     }
 }

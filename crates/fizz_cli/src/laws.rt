@@ -4,14 +4,15 @@ ghost use Rattle.std.specs.Prelude.{◌≡◌, List, Option, ℕ};
 ghost use Rattle.std.specs.Str.{IsUtf8};
 ghost use Rattle.dom_forest.specs.declared.document.DocNode.{DocNode as Node};
 ghost use Rattle.fizz_outside.specs.FileContents.{Contents};
+ghost use Rattle.fizz_cli.specs.AppFiles.{AcceptsApp, RefusesApp};
 ghost use Rattle.fizz_cli.specs.Documents.{IsDocument};
-ghost use Rattle.fizz_cli.specs.Refusals.{IsRefusedFile, RefusesPair};
-ghost use Rattle.fizz_cli.specs.Showing.{IsRefusedPage, ShowsDocument};
+ghost use Rattle.fizz_cli.specs.PageFiles.{RefusesPage, ShowsFile};
+ghost use Rattle.fizz_cli.specs.ScriptFiles.{AcceptsScript, RefusesScript};
+ghost use Rattle.fizz_cli.specs.Serving.{Accepts, Refuses};
 ghost use Rattle.fizz_cli.specs.Source.{IsPageFile};
-ghost use Rattle.fizz_cli.specs.declared.refusal.Input.{Input as FileOf};
 ghost use Rattle.fizz_cli.specs.declared.refusal.Refusal.{Refusal as Cause};
 
-use crate::refusal::Input;
+use crate::command::Command;
 use document_machine::laws_of_documents;
 
 /// A law of literal pages: a file means one document at most.
@@ -26,13 +27,36 @@ pub fn one_document()
     laws_of_documents();
 }
 
-/// The files of a command are refused for one thing at most, so there is one note for them. A page that is shown is
-/// refused for nothing.
-pub fn laws_of_refusals()
-    ensures render { (at : Contents) (app script : List ℕ) (a b : Cause) → RefusesPair at app script a → RefusesPair at app script b → a ≡ b }
-    ensures show { (prefix : List ℕ) (file : Option (List ℕ)) (a b : Cause) → IsUtf8 prefix →
-        IsRefusedFile Input.Page (IsRefusedPage prefix) file a → IsRefusedFile Input.Page (IsRefusedPage prefix) file b → a ≡ b }
-    ensures shown { (prefix bytes out : List ℕ) (cause : Cause) → IsUtf8 prefix → ShowsDocument prefix bytes out → IsRefusedPage prefix bytes cause → ⊥ }
+/// Laws of the steps that read a file: what is accepted is not refused.
+pub fn laws_of_steps()
+    ensures app { (name : List ℕ) (file : Option (List ℕ)) (nodes : List Node) (cause : Cause) →
+        AcceptsApp file nodes → RefusesApp ⊥ name file cause → ⊥ }
+    ensures script { (name : List ℕ) (file : Option (List ℕ)) (cause : Cause) →
+        AcceptsScript file → RefusesScript ⊥ name file cause → ⊥ }
+    ensures page { (prefix name : List ℕ) (file : Option (List ℕ)) (out : List ℕ) (cause : Cause) → IsUtf8 prefix →
+        ShowsFile prefix file out → RefusesPage prefix ⊥ name file cause → ⊥ }
+{
+    laws_of_documents();
+}
+
+/// Laws of commands, by what files hold: an accepted command is not refused, and a command is refused for one thing at
+/// most, so there is one note for it.
+pub fn laws_of_refusals(command: &Command)
+    ensures accepted { (at : Contents) (cause : Cause) → Accepts at command.now → Refuses at command.now ⊥ cause → ⊥ }
+    ensures one { (at : Contents) (a b : Cause) → Refuses at command.now ⊥ a → Refuses at command.now ⊥ b → a ≡ b }
+{
+    match command {
+        Command::Render { .. } => {}
+        Command::Show { prefix, .. } => laws_of_pages(prefix.as_str()),
+    }
+}
+
+/// The same of a page file.
+fn laws_of_pages(prefix: &str)
+    ensures accepted { (name : List ℕ) (file : Option (List ℕ)) (out : List ℕ) (cause : Cause) →
+        ShowsFile prefix.now file out → RefusesPage prefix.now ⊥ name file cause → ⊥ }
+    ensures one { (name : List ℕ) (file : Option (List ℕ)) (a b : Cause) →
+        RefusesPage prefix.now ⊥ name file a → RefusesPage prefix.now ⊥ name file b → a ≡ b }
 {
     laws_of_documents();
 }

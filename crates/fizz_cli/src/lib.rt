@@ -2,20 +2,21 @@
 #![tactic(auto)]
 
 mod command;
-mod inputs;
+mod commands;
 mod laws;
 mod note;
 mod page;
 mod refusal;
 mod sending;
-mod showing;
+mod steps;
+mod stop;
 mod top;
 mod words;
 
 pub use command::{Command, Options};
-pub use laws::{laws_of_refusals, one_document, one_page};
+pub use laws::{laws_of_refusals, laws_of_steps, one_document, one_page};
 pub use page::page_html;
-pub use refusal::{Input, Refusal};
+pub use refusal::{AppFault, FileFault, PageFault, Refusal, ScriptFault};
 pub use top::{fizz, fizz_inline};
 pub use words::{WordsFault, read_words};
 

@@ -1,57 +1,258 @@
-ghost use Rattle.std.specs.Prelude.{◌≡◌, string_bytes, IfOk};
-ghost use Rattle.fizz_cli.specs.Notes.{note_of};
+//! The line that tells why a command was refused: a label and fields, printed by one printer.
 
-use crate::command::Command;
-use crate::inputs::most_bytes;
-use crate::refusal::{Input, Refusal};
+ghost use Rattle.std.specs.Prelude.{◌≡◌, ◌++◌, ◌<◌, IfOk, OnOk, codes, map};
+ghost use Rattle.std.specs.List.{flat_map};
+ghost use Rattle.std.specs.Fmt.{decimal};
+ghost use Rattle.std.specs.Char.{digit_char};
+ghost use Rattle.fizz_cli.specs.Notes.{after_dot, app_row, dotted, entry_of, entry_text, line_of, note_of, number, page_row, placed, row_of, row_text, script_row, two_digits, value_of, value_text, words};
+
+use crate::refusal::{AppFault, FileFault, PageFault, Refusal, ScriptFault};
 use std::alloc::{AllocError, Global};
 
-/// The line that tells why a command was refused.
-pub(crate) fn note_of(
-    alloc: Global,
-    command: &Command,
-    refusal: &Refusal,
-) -> Result<String, AllocError>
-    ensures { IfOk result (λ note. string_bytes note ≡ note_of command.now refusal.now) }
+/// What a field of a note says: a number, a text as it is, the steps of a path, or the bytes of a hash.
+#[derive(Clone, Copy, Debug)]
+pub(crate) enum FieldValue<'a> {
+    Number(u64),
+    Words(&'a [u8]),
+    Steps(&'a [u32]),
+    Hash(&'a [u8]),
+}
+
+/// A field of a note.
+#[derive(Clone, Copy, Debug)]
+pub(crate) struct Field<'a> {
+    name: &'static str,
+    value: FieldValue<'a>,
+}
+
+/// The note of a refusal, a line.
+pub(crate) fn note_of(alloc: Global, refusal: &Refusal) -> Result<Vec<u8>, AllocError>
+    ensures { IfOk result (λ note. note.items ≡ note_of refusal.now) }
 {
     match refusal {
-        Refusal::CannotRead(input) => {
-            let name = command.name(*input).as_str();
-            format!(in alloc; "cannot read {name}\n")
+        Refusal::CannotRead { name } => words_line(alloc, b"cannot read ", name.as_bytes()),
+        Refusal::File { name, fault } => file_line(alloc, name.as_bytes(), fault),
+        Refusal::ShellFailed { digest } => words_line(alloc, b"shell failed: ", digest.as_bytes()),
+        Refusal::ShellPostponed { resource } => {
+            words_line(alloc, b"shell postponed: ", resource.as_bytes())
         }
-        Refusal::TooLong(input) => {
-            let name = command.name(*input).as_str();
-            let most = most_bytes(*input);
-            format!(in alloc; "{name}: TooLong most={most}\n")
+        Refusal::CannotWrite { name } => words_line(alloc, b"cannot write ", name.as_bytes()),
+        Refusal::StateTooLong { length } => number_line(alloc, b"state too long: ", *length),
+    }
+}
+
+fn words_line(alloc: Global, label: &[u8], text: &[u8]) -> Result<Vec<u8>, AllocError>
+    ensures { IfOk result (λ note. note.items ≡ line_of label.now (words text.now)) }
+{
+    let mut note = Vec::new(alloc);
+    note.extend_from_slice(label)?;
+    note.extend_from_slice(text)?;
+    note.extend_from_slice(b"\n")?;
+    Ok(note)
+}
+
+fn number_line(alloc: Global, label: &[u8], value: u64) -> Result<Vec<u8>, AllocError>
+    ensures { IfOk result (λ note. note.items ≡ line_of label.now (number value)) }
+{
+    let mut note = Vec::new(alloc);
+    note.extend_from_slice(label)?;
+    push_number(alloc, &mut note, value)?;
+    note.extend_from_slice(b"\n")?;
+    Ok(note)
+}
+
+fn file_line(alloc: Global, name: &[u8], fault: &FileFault) -> Result<Vec<u8>, AllocError>
+    ensures { IfOk result (λ note. note.items ≡ name.now ++ (codes ": " ++ (row_text (row_of fault.now) ++ codes "\n"))) }
+{
+    let mut note = Vec::new(alloc);
+    note.extend_from_slice(name)?;
+    note.extend_from_slice(b": ")?;
+    push_fault(alloc, &mut note, fault)?;
+    note.extend_from_slice(b"\n")?;
+    Ok(note)
+}
+
+fn push_fault(alloc: Global, note: &mut Vec<u8>, fault: &FileFault) -> Result<(), AllocError>
+    ensures { OnOk result (note.new.items ≡ note.old.items ++ row_text (row_of fault.now)) }
+{
+    match fault {
+        FileFault::TooLong { most } => {
+            push_row(alloc, note, "TooLong", &[count_field("most", *most as u64)])
         }
-        Refusal::NotUtf8 { valid } => {
-            let name = command.name(Input::App).as_str();
-            format!(in alloc; "{name}: NotUtf8 valid={valid}\n")
+        FileFault::App(fault) => push_app_fault(alloc, note, fault),
+        FileFault::Script(fault) => push_script_fault(alloc, note, fault),
+        FileFault::Page(fault) => push_page_fault(alloc, note, fault),
+    }
+}
+
+fn push_app_fault(alloc: Global, note: &mut Vec<u8>, fault: &AppFault) -> Result<(), AllocError>
+    ensures { OnOk result (note.new.items ≡ note.old.items ++ row_text (app_row fault.now)) }
+{
+    match fault {
+        AppFault::NotUtf8 { valid } => {
+            push_row(
+                alloc,
+                note,
+                "NotUtf8",
+                &[count_field("valid", *valid as u64)],
+            )
         }
-        Refusal::Unbuilt(input) => {
-            let name = command.name(*input).as_str();
-            format!(in alloc; "{name}: Unbuilt\n")
+        AppFault::Unbuilt => push_row(alloc, note, "Unbuilt", &[]),
+    }
+}
+
+fn push_script_fault(
+    alloc: Global,
+    note: &mut Vec<u8>,
+    fault: &ScriptFault,
+) -> Result<(), AllocError>
+    ensures { OnOk result (note.new.items ≡ note.old.items ++ row_text (script_row fault.now)) }
+{
+    match fault {
+        ScriptFault::Unbuilt => push_row(alloc, note, "Unbuilt", &[]),
+    }
+}
+
+fn push_page_fault(alloc: Global, note: &mut Vec<u8>, fault: &PageFault) -> Result<(), AllocError>
+    ensures { OnOk result (note.new.items ≡ note.old.items ++ row_text (page_row fault.now)) }
+{
+    match fault {
+        PageFault::Html { at } => push_placed(alloc, note, "Html", *at),
+        PageFault::UnknownFunction { at } => push_placed(alloc, note, "UnknownFunction", *at),
+        PageFault::NoSuchId { at, id } => {
+            let fields = [
+                count_field("at", *at as u64),
+                words_field("id", id.as_bytes()),
+            ];
+            push_row(alloc, note, "NoSuchId", &fields)
         }
-        Refusal::Html { at } => {
-            let name = command.name(Input::Page).as_str();
-            format!(in alloc; "{name}: Html at={at}\n")
+        PageFault::NotBoundary { at } => push_placed(alloc, note, "NotBoundary", *at),
+        PageFault::StillPending { count } => {
+            push_row(alloc, note, "StillPending", &[count_field("count", *count)])
         }
-        Refusal::UnknownFunction { at } => {
-            let name = command.name(Input::Page).as_str();
-            format!(in alloc; "{name}: UnknownFunction at={at}\n")
+    }
+}
+
+/// A label with a place.
+fn push_placed(alloc: Global, note: &mut Vec<u8>, label: &str, at: usize) -> Result<(), AllocError>
+    ensures { OnOk result (note.new.items ≡ note.old.items ++ row_text (placed label.now at)) }
+{
+    push_row(alloc, note, label, &[count_field("at", at as u64)])
+}
+
+fn count_field<'a>(name: &'static str, value: u64) -> Field<'a>
+    ensures { entry_of result ≡ record { name = name.now; value = number value } }
+{
+    Field {
+        name,
+        value: FieldValue::Number(value),
+    }
+}
+
+fn words_field<'a>(name: &'static str, text: &'a [u8]) -> Field<'a>
+    ensures { entry_of result ≡ record { name = name.now; value = words text.now } }
+{
+    Field {
+        name,
+        value: FieldValue::Words(text),
+    }
+}
+
+/// The printer of what notes say of files: a label, and each field as a space, its name, `=` and its value.
+fn push_row(
+    alloc: Global,
+    note: &mut Vec<u8>,
+    label: &str,
+    fields: &[Field<'_>],
+) -> Result<(), AllocError>
+    ensures { OnOk result (note.new.items ≡ note.old.items ++ (label.now ++ flat_map entry_text (map entry_of fields.now))) }
+{
+    note.extend_from_slice(label.as_bytes())?;
+    for field in fields {
+        push_field(alloc, note, field)?;
+    }
+    Ok(())
+}
+
+fn push_field(alloc: Global, note: &mut Vec<u8>, field: &Field<'_>) -> Result<(), AllocError>
+    ensures { OnOk result (note.new.items ≡ note.old.items ++ entry_text (entry_of field.now)) }
+{
+    note.extend_from_slice(b" ")?;
+    note.extend_from_slice(field.name.as_bytes())?;
+    note.extend_from_slice(b"=")?;
+    push_value(alloc, note, field.value)
+}
+
+fn push_value(alloc: Global, note: &mut Vec<u8>, value: FieldValue<'_>) -> Result<(), AllocError>
+    ensures { OnOk result (note.new.items ≡ note.old.items ++ value_text (value_of value.entry)) }
+{
+    match value {
+        FieldValue::Number(number) => push_number(alloc, note, number),
+        FieldValue::Words(text) => note.extend_from_slice(text),
+        FieldValue::Steps(steps) => push_steps(alloc, note, steps),
+        FieldValue::Hash(bytes) => push_hash(note, bytes),
+    }
+}
+
+fn push_number(alloc: Global, note: &mut Vec<u8>, number: u64) -> Result<(), AllocError>
+    ensures { OnOk result (note.new.items ≡ note.old.items ++ decimal number) }
+{
+    let digits = format!(in alloc; "{number}")?;
+    note.extend_from_slice(digits.as_bytes())
+}
+
+/// The steps of a path, joined by dots.
+fn push_steps(alloc: Global, note: &mut Vec<u8>, steps: &[u32]) -> Result<(), AllocError>
+    ensures { OnOk result (note.new.items ≡ note.old.items ++ dotted steps.now) }
+{
+    match steps.split_first() {
+        Some((first, later)) => {
+            push_number(alloc, note, u64::from(*first))?;
+            push_later_steps(alloc, note, later)
         }
-        Refusal::NoSuchId { at, id } => {
-            let name = command.name(Input::Page).as_str();
-            let id = id.as_str();
-            format!(in alloc; "{name}: NoSuchId at={at} id={id}\n")
-        }
-        Refusal::NotBoundary { at } => {
-            let name = command.name(Input::Page).as_str();
-            format!(in alloc; "{name}: NotBoundary at={at}\n")
-        }
-        Refusal::StillPending { count } => {
-            let name = command.name(Input::Page).as_str();
-            format!(in alloc; "{name}: StillPending count={count}\n")
-        }
+        None => Ok(()),
+    }
+}
+
+fn push_later_steps(alloc: Global, note: &mut Vec<u8>, later: &[u32]) -> Result<(), AllocError>
+    ensures { OnOk result (note.new.items ≡ note.old.items ++ flat_map after_dot later.now) }
+{
+    for step in later {
+        push_after_dot(alloc, note, *step)?;
+    }
+    Ok(())
+}
+
+fn push_after_dot(alloc: Global, note: &mut Vec<u8>, step: u32) -> Result<(), AllocError>
+    ensures { OnOk result (note.new.items ≡ note.old.items ++ after_dot step) }
+{
+    note.extend_from_slice(b".")?;
+    push_number(alloc, note, u64::from(step))
+}
+
+/// The bytes of a hash, two lower-case hexadecimal digits each.
+fn push_hash(note: &mut Vec<u8>, bytes: &[u8]) -> Result<(), AllocError>
+    ensures { OnOk result (note.new.items ≡ note.old.items ++ flat_map two_digits bytes.now) }
+{
+    for byte in bytes {
+        push_digits(note, *byte)?;
+    }
+    Ok(())
+}
+
+fn push_digits(note: &mut Vec<u8>, byte: u8) -> Result<(), AllocError>
+    ensures { OnOk result (note.new.items ≡ note.old.items ++ two_digits byte) }
+{
+    note.extend_from_slice(&[hex_digit(byte / 16), hex_digit(byte % 16)])
+}
+
+fn hex_digit(value: u8) -> u8
+    requires { value < 16 }
+    ensures { result ≡ digit_char value }
+{
+    if value < 10 {
+        b'0' + value
+    } else {
+        b'a' + (value - 10)
     }
 }

@@ -1,33 +1,78 @@
+//! Why a command is refused.
+
+ghost use Rattle.std.specs.Prelude.{◌≡◌};
+ghost use Rattle.fizz_cli.specs.Refusals.{status_of};
+
 use fizz_text::Text;
 
-/// A file that a command reads.
-#[derive(Clone, Copy, Debug, PartialEq, Eq)]
-pub enum Input {
-    App,
-    Script,
-    /// The page file of `show`.
-    Page,
-}
-
-/// Why a command is refused for one of its files. `at` is a place in a page file, as the machine tells it.
+/// Why a command is refused. Each variant has one status.
 #[derive(Debug, Drop)]
 pub enum Refusal {
-    /// The file isn't there or can't be read.
-    CannotRead(Input),
-    /// The file is longer than its limit.
-    TooLong(Input),
-    /// The component file isn't UTF-8. `valid` is the length of its longest front that is.
+    /// 3: the file isn't there or can't be read.
+    CannotRead { name: Text },
+    /// 4: the file's bytes are refused.
+    File { name: Text, fault: FileFault },
+    /// 5: the content outside all boundaries failed, with this digest.
+    ShellFailed { digest: Text },
+    /// 6: the content outside all boundaries waits for this resource.
+    ShellPostponed { resource: Text },
+    /// 9: the file can't be written.
+    CannotWrite { name: Text },
+    /// 10: the text of the state would have so many bytes.
+    StateTooLong { length: u64 },
+}
+
+/// What a file's bytes are refused for.
+#[derive(Debug, Drop)]
+pub enum FileFault {
+    /// There are more bytes than these.
+    TooLong { most: usize },
+    App(AppFault),
+    Script(ScriptFault),
+    Page(PageFault),
+}
+
+/// What the bytes of a component file are refused for.
+#[derive(Debug, Drop)]
+pub enum AppFault {
+    /// They aren't UTF-8. `valid` is the length of their longest prefix that is.
     NotUtf8 { valid: usize },
-    /// The file has a form that isn't served.
-    Unbuilt(Input),
-    /// The page file is not of the form of a page, its tags don't nest, or it ends too early.
+    /// They have a form that isn't served.
+    Unbuilt,
+}
+
+/// What the bytes of a settling script are refused for.
+#[derive(Debug, Drop)]
+pub enum ScriptFault {
+    /// They have a form that isn't served.
+    Unbuilt,
+}
+
+/// What the bytes of a page file are refused for. `at` is a place in them, as the document machine tells it.
+#[derive(Debug, Drop)]
+pub enum PageFault {
+    /// They are not of the form of a page, their tags don't nest, or they end too early.
     Html { at: usize },
-    /// A script of the page file calls a function that no script defined.
+    /// A script calls a function that no script defined.
     UnknownFunction { at: usize },
-    /// A script of the page file names an id that is not there.
+    /// A script names an id that is not there.
     NoSuchId { at: usize, id: Text },
-    /// A script of the page file names a template that belongs to no boundary.
+    /// A script names a template that belongs to no boundary.
     NotBoundary { at: usize },
-    /// So many boundaries of the page file are pending at its end.
+    /// So many boundaries are pending at the end.
     StillPending { count: u64 },
+}
+
+/// The status that a refusal ends the program with.
+pub(crate) fn status_of(refusal: &Refusal) -> u8
+    ensures { result ≡ status_of refusal.now }
+{
+    match refusal {
+        Refusal::CannotRead { .. } => 3,
+        Refusal::File { .. } => 4,
+        Refusal::ShellFailed { .. } => 5,
+        Refusal::ShellPostponed { .. } => 6,
+        Refusal::CannotWrite { .. } => 9,
+        Refusal::StateTooLong { .. } => 10,
+    }
 }

@@ -1,12 +1,14 @@
-ghost use Rattle.std.specs.Prelude.{◌≡◌, ◌≤◌};
-ghost use Rattle.fizz_outside.specs.Faults.{FaultCounted};
-ghost use Rattle.fizz_cli.specs.Endings.{SendsAll};
-ghost use Rattle.fizz_cli.specs.Notes.{note_of};
-ghost use Rattle.fizz_cli.specs.Statuses.{status_of};
+//! Bytes on their way to a sink.
 
-use crate::command::Command;
+ghost use Rattle.std.specs.Prelude.{◌≡◌, ◌≤◌};
+ghost use Rattle.fizz_cli.specs.Ends.{SendsAll, WritesAll};
+ghost use Rattle.fizz_cli.specs.Notes.{note_of};
+ghost use Rattle.fizz_cli.specs.Refusals.{status_of};
+ghost use Rattle.fizz_cli.specs.Reports.{sink_change};
+
 use crate::note::note_of;
-use crate::refusal::Refusal;
+use crate::refusal::{Refusal, status_of};
+use crate::stop::Stop;
 use fizz_outside::{Sink, SinkRefused};
 use std::alloc::Global;
 
@@ -14,12 +16,22 @@ pub(crate) const SINK_FAILED: u8 = 7;
 
 pub(crate) const NO_MEMORY: u8 = 8;
 
-/// SendsAll bytes to a sink, and ends with the status unless the sink refuses.
-pub(crate) fn send<S: Sink>(status: u8, bytes: &[u8], sink: &mut S) -> u8
-    ensures sent { SendsAll status bytes.now (S.held sink.old) (S.held sink.new) (FaultCounted (S.faults sink.old) (S.faults sink.new)) result }
-    ensures later { S.faults sink.old ≤ S.faults sink.new }
+/// Writes bytes to the output.
+pub(crate) fn write<S: Sink>(bytes: &[u8], out: &mut S) -> Result<(), Stop>
+    ensures { WritesAll bytes.now (sink_change (S.contents out.old) (S.faults out.old) (S.contents out.new) (S.faults out.new)) result }
 {
-    match sink.write_all(bytes) {
+    match out.write_all(bytes) {
+        Ok(()) => Ok(()),
+        Err(SinkRefused::Failed) => Err(Stop::SinkFailed),
+        Err(SinkRefused::OutOfMemory) => Err(Stop::OutOfMemory),
+    }
+}
+
+/// Sends a note, and ends with the status unless the sink refuses.
+pub(crate) fn send<N: Sink>(status: u8, note: &[u8], notes: &mut N) -> u8
+    ensures { SendsAll status note.now (sink_change (N.contents notes.old) (N.faults notes.old) (N.contents notes.new) (N.faults notes.new)) result }
+{
+    match notes.write_all(note) {
         Ok(()) => status,
         Err(SinkRefused::Failed) => SINK_FAILED,
         Err(SinkRefused::OutOfMemory) => NO_MEMORY,
@@ -27,29 +39,12 @@ pub(crate) fn send<S: Sink>(status: u8, bytes: &[u8], sink: &mut S) -> u8
 }
 
 /// Tells why a command was refused, and ends with the status of that.
-pub(crate) fn tell<N: Sink>(
-    alloc: Global,
-    command: &Command,
-    refusal: &Refusal,
-    notes: &mut N,
-) -> u8
-    ensures sent { SendsAll (status_of refusal.now) (note_of command.now refusal.now) (N.held notes.old) (N.held notes.new)
-        (FaultCounted (N.faults notes.old) (N.faults notes.new)) result }
-    ensures later { N.faults notes.old ≤ N.faults notes.new }
+pub(crate) fn tell<N: Sink>(alloc: Global, refusal: &Refusal, notes: &mut N) -> u8
+    ensures { SendsAll (status_of refusal.now) (note_of refusal.now)
+        (sink_change (N.contents notes.old) (N.faults notes.old) (N.contents notes.new) (N.faults notes.new)) result }
 {
-    match note_of(alloc, command, refusal) {
-        Ok(note) => send(status_of(refusal), note.as_bytes(), notes),
+    match note_of(alloc, refusal) {
+        Ok(note) => send(status_of(refusal), &note, notes),
         Err(_) => NO_MEMORY,
-    }
-}
-
-fn status_of(refusal: &Refusal) -> u8
-    ensures { result ≡ status_of refusal.now }
-{
-    match refusal {
-        Refusal::CannotRead(_) => 3,
-        Refusal::TooLong(_) | Refusal::NotUtf8 { .. } | Refusal::Unbuilt(_) => 4,
-        Refusal::Html { .. } | Refusal::UnknownFunction { .. } => 4,
-        Refusal::NoSuchId { .. } | Refusal::NotBoundary { .. } | Refusal::StillPending { .. } => 4,
     }
 }

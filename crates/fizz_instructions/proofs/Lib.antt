@@ -1,6 +1,6 @@
-pub mod Arguments
-pub mod Calls
-pub mod Ids
-pub mod Lists
-pub mod Marks
-pub mod Numerals
+pub mod ArgumentsLemmas
+pub mod BodiesLemmas
+pub mod IdsLemmas
+pub mod ListLemmas
+pub mod BodyMarkLemmas
+pub mod HexadecimalLemmas

@@ -4,7 +4,7 @@ use Rattle.std.specs.Prelude.{ℕ, ◌<◌, ◌^◌, Bool, if◌then◌else◌, 
 use Rattle.std.specs.Str.{IsUtf8}
 use Rattle.fizz_text.specs.Hexadecimal.{hexadecimal}
 use Rattle.html_names.specs.JsStrings.{js_string}
-use Rattle.fizz_instructions.specs.Functions.{name_of, text_of}
+use Rattle.fizz_instructions.specs.Functions.{name_of, definition_of}
 use Rattle.fizz_instructions.specs.declared.functions.Function.{Function}
 use Rattle.fizz_instructions.specs.declared.functions.Function.TheVariants.{CompleteBoundary, CompleteSegment, ClientRenderBoundary}
 use Rattle.fizz_instructions.specs.declared.instruction.Instruction.{Instruction}
@@ -46,16 +46,16 @@ arguments_of prefix (Complete boundary segment) = two_strings (boundary_id prefi
 arguments_of prefix (Segment segment) = two_strings (segment_id prefix segment) (placeholder_id prefix segment)
 arguments_of prefix (ClientRender boundary digest) = js_string (boundary_id prefix boundary) ++ digest_argument digest
 
-abbrev pub called : Function → List ℕ → List ℕ
-called function arguments = name_of function ++ (codes "(" ++ (arguments ++ codes ")"))
+abbrev pub call_with : Function → List ℕ → List ℕ
+call_with function arguments = name_of function ++ (codes "(" ++ (arguments ++ codes ")"))
 
 -- `$RC("B:0","S:0")`, `$RS("S:1","P:1")`, `$RX("B:0","digest")` or `$RX("B:0")`
 abbrev pub call_of : List ℕ → Instruction → List ℕ
-call_of prefix i = called (function_of i) (arguments_of prefix i)
+call_of prefix i = call_with (function_of i) (arguments_of prefix i)
 
 -- The body of a script: the function's definition, where it stands in it, and the call.
 abbrev pub body_of : List ℕ → Instruction → Bool → List ℕ
-body_of prefix i defines = (if defines then text_of (function_of i) else []) ++ call_of prefix i
+body_of prefix i defines = (if defines then definition_of (function_of i) else []) ++ call_of prefix i
 
 abbrev pub script_of : List ℕ → Instruction → Bool → List ℕ
 script_of prefix i defines = codes "<script>" ++ (body_of prefix i defines ++ codes "</script>")

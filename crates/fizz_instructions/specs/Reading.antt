@@ -5,7 +5,7 @@ use Rattle.fizz_instructions.specs.Bodies.{IsInstruction, arguments_of, body_of,
 use Rattle.fizz_instructions.specs.Sending.{has}
 use Rattle.fizz_instructions.specs.declared.functions.Function.{Function}
 use Rattle.fizz_instructions.specs.declared.instruction.Instruction.{Instruction}
-use Rattle.fizz_instructions.specs.declared.instruction.Sent.{Sent}
+use Rattle.fizz_instructions.specs.declared.instruction.SentFunctions.{SentFunctions}
 use Rattle.fizz_instructions.specs.declared.reading.BodyFault.{BodyFault}
 use Rattle.fizz_instructions.specs.declared.reading.BodyFault.TheVariants.{BadInstruction, UnknownFunction, OutOfMemory}
 
@@ -19,24 +19,24 @@ abbrev pub IsNoBody : List ℕ → List ℕ → Type 0
 IsNoBody prefix body = (i : Instruction) (defines : Bool) → ¬ IsBodyOf prefix body i defines
 
 -- The body is this instruction's, and its function is known or defined in it. A function may be defined again.
-pub record Says (prefix body : List ℕ) (known : Sent) (i : Instruction) : Type 0 where
+pub record Says (prefix body : List ℕ) (known : SentFunctions) (i : Instruction) : Type 0 where
   pub defines : Bool
   pub body_is : IsBodyOf prefix body i defines
   pub callable : defines ≡ false → has known (function_of i) ≡ true
 
 -- The body calls a function that is neither known nor defined in it.
-pub record CallsUnknown (prefix body : List ℕ) (known : Sent) : Type 0 where
+pub record CallsUnknown (prefix body : List ℕ) (known : SentFunctions) : Type 0 where
   pub instruction : Instruction
   pub body_is : IsBodyOf prefix body instruction false
   pub unknown : has known (function_of instruction) ≡ false
 
--- When each refusal comes. Want of memory may always come.
-abbrev pub HasCause : List ℕ → List ℕ → Sent → BodyFault → Type 0
-HasCause prefix body known BadInstruction = IsNoBody prefix body
-HasCause prefix body known UnknownFunction = CallsUnknown prefix body known
-HasCause prefix body known OutOfMemory = Unit {0}
+-- When each refusal comes. `OutOfMemory` may always come.
+abbrev pub HasBodyCause : List ℕ → List ℕ → SentFunctions → BodyFault → Type 0
+HasBodyCause prefix body known BadInstruction = IsNoBody prefix body
+HasBodyCause prefix body known UnknownFunction = CallsUnknown prefix body known
+HasBodyCause prefix body known OutOfMemory = Unit {0}
 
--- The parts of a body, each with what is none.
+-- The parts of a body, each with what is none. They are for private functions.
 
 pub record IsCallOf (prefix call : List ℕ) (function : Function) (i : Instruction) : Type 0 where
   pub calls : function_of i ≡ function

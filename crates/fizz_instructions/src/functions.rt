@@ -1,7 +1,7 @@
 //! The functions that a page's scripts call.
 
 ghost use Rattle.std.specs.Prelude.{◌≡◌};
-ghost use Rattle.fizz_instructions.specs.Functions.{name_of, text_of};
+ghost use Rattle.fizz_instructions.specs.Functions.{name_of, definition_of};
 
 /// A function that a page's scripts call, by React's name for it.
 #[derive(Clone, Copy, Debug, PartialEq, Eq)]
@@ -25,9 +25,9 @@ const CLIENT_RENDER_BOUNDARY: &str =
 
 impl Function {
     /// The definition of the function, in ECMAScript, on one line.
-    #[tactic(auto, unfolding(crate::specs::Functions::complete_boundary_text, crate::specs::Functions::complete_segment_text, crate::specs::Functions::client_render_text))]
-    pub fn text(self) -> &'static str
-        ensures { result.now ≡ text_of self }
+    #[tactic(auto, unfolding(crate::specs::Functions::complete_boundary_definition, crate::specs::Functions::complete_segment_definition, crate::specs::Functions::client_render_definition))]
+    pub fn definition(self) -> &'static str
+        ensures { result.now ≡ definition_of self }
     {
         match self {
             Function::CompleteBoundary => COMPLETE_BOUNDARY,

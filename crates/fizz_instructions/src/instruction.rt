@@ -2,7 +2,7 @@
 
 ghost use Rattle.std.specs.Prelude.{◌≡◌};
 ghost use Rattle.fizz_instructions.specs.Bodies.{function_of};
-ghost use Rattle.fizz_instructions.specs.Sending.{has, none_sent, with_function};
+ghost use Rattle.fizz_instructions.specs.Sending.{has, no_function_sent, with_function};
 
 use crate::functions::Function;
 use fizz_text::Text;
@@ -33,18 +33,18 @@ impl Instruction {
 
 /// Which of the functions `$RC`, `$RS` and `$RX` a page has.
 #[derive(Clone, Copy, Debug, PartialEq, Eq)]
-pub struct Sent {
+pub struct SentFunctions {
     pub rc: bool,
     pub rs: bool,
     pub rx: bool,
 }
 
-impl Sent {
+impl SentFunctions {
     /// None of them, as at the start of a page and of a resumption.
-    pub fn none() -> Sent
-        ensures { result ≡ none_sent }
+    pub fn none() -> SentFunctions
+        ensures { result ≡ no_function_sent }
     {
-        Sent {
+        SentFunctions {
             rc: false,
             rs: false,
             rx: false,

@@ -8,7 +8,7 @@ mod laws;
 mod printing;
 mod reading;
 
-pub use instruction::{Instruction, Sent};
+pub use instruction::{Instruction, SentFunctions};
 pub use laws::laws_of_instructions;
 pub use printing::push_script;
 pub use reading::{BodyFault, read_script_body};

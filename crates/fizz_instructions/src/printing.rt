@@ -6,7 +6,7 @@ ghost use Rattle.html_names.specs.JsStrings.{js_string};
 ghost use Rattle.fizz_instructions.specs.Bodies.{arguments_of, call_of, digest_argument, function_of, id_of, script_of};
 ghost use Rattle.fizz_instructions.specs.Sending.{has, with_function};
 
-use crate::instruction::{Instruction, Sent};
+use crate::instruction::{Instruction, SentFunctions};
 use fizz_text::{OutOfMemory, Text, hex_of};
 use html_names::push_js_string;
 use std::alloc::Global;
@@ -19,9 +19,10 @@ pub fn push_script(
     out: &mut Vec<u8>,
     instruction: &Instruction,
     prefix: &Text,
-    sent: &mut Sent,
+    sent: &mut SentFunctions,
 ) -> Result<(), OutOfMemory>
-    ensures appended { OnOk result (out.new.items ≡ out.old.items ++ script_of prefix.now instruction.now (not (has sent.old (function_of instruction.now)))) }
+    ensures appended { OnOk result (out.new.items ≡ out.old.items
+        ++ script_of prefix.now instruction.now (not (has sent.old (function_of instruction.now)))) }
     ensures sent { OnOk result (sent.new ≡ with_function sent.old (function_of instruction.now)) }
     ensures out_unchanged { OnErr result (out.new.items ≡ out.old.items) }
     ensures sent_unchanged { OnErr result (sent.new ≡ sent.old) }
@@ -43,7 +44,7 @@ fn script_bytes(
 {
     let mut script = Vec::from_slice(alloc, b"<script>")?;
     if defines {
-        script.extend_from_slice(instruction.function().text().as_bytes())?;
+        script.extend_from_slice(instruction.function().definition().as_bytes())?;
     }
     push_call(alloc, &mut script, instruction, prefix)?;
     script.extend_from_slice(b"</script>")?;
@@ -99,7 +100,7 @@ fn push_digest(out: &mut Vec<u8>, digest: &Text) -> Result<(), OutOfMemory>
         return Ok(());
     }
     out.push(b',')?;
-    push_string(out, digest)
+    push_js_string(out, digest)
 }
 
 /// Appends the string of an id.
@@ -110,20 +111,11 @@ fn push_id(
     mark: &str,
     number: u32,
 ) -> Result<(), OutOfMemory>
-    ensures { OnOk result (out.new.items ≡ out.old.items ++ js_string (id_of prefix.now mark.now number)) }
+    ensures { OnOk result (
+        out.new.items ≡ out.old.items ++ js_string (id_of prefix.now mark.now number)) }
 {
     let mut id = Vec::from_slice(alloc, prefix.as_bytes())?;
     id.extend_from_slice(mark.as_bytes())?;
     id.extend_from_slice(hex_of(number).as_bytes())?;
-    push_string(out, &id)
-}
-
-fn push_string(out: &mut Vec<u8>, text: &[u8]) -> Result<(), OutOfMemory>
-    requires { IsUtf8 text.now }
-    ensures { OnOk result (out.new.items ≡ out.old.items ++ js_string text.now) }
-{
-    match push_js_string(out, text) {
-        Ok(()) => Ok(()),
-        Err(_) => Err(OutOfMemory),
-    }
+    push_js_string(out, &id)
 }

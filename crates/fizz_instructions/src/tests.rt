@@ -1,4 +1,4 @@
-use crate::{BodyFault, Instruction, Sent, push_script, read_script_body};
+use crate::{BodyFault, Instruction, SentFunctions, push_script, read_script_body};
 use fizz_text::Text;
 use std::test::Fail;
 
@@ -11,31 +11,31 @@ const RS: &str =
 const RX: &str =
     r#"$RX=function(b,d){b=document.getElementById(b);if(b){b.previousSibling.data="$!";if(d)b.dataset.dgst=d}};"#;
 
-const NONE: Sent = Sent {
+const NONE: SentFunctions = SentFunctions {
     rc: false,
     rs: false,
     rx: false,
 };
 
-const ALL: Sent = Sent {
+const ALL: SentFunctions = SentFunctions {
     rc: true,
     rs: true,
     rx: true,
 };
 
-const ONLY_RC: Sent = Sent {
+const ONLY_RC: SentFunctions = SentFunctions {
     rc: true,
     rs: false,
     rx: false,
 };
 
-const ONLY_RS: Sent = Sent {
+const ONLY_RS: SentFunctions = SentFunctions {
     rc: false,
     rs: true,
     rx: false,
 };
 
-const ONLY_RX: Sent = Sent {
+const ONLY_RX: SentFunctions = SentFunctions {
     rc: false,
     rs: false,
     rx: true,
@@ -80,7 +80,13 @@ fn same(a: &Instruction, b: &Instruction) -> bool {
 }
 
 /// Each instruction with its prefix, its function's definition, what a page has after it, and the call.
-fn rows() -> [(Instruction, &'static str, &'static str, Sent, &'static str); 7] {
+fn rows() -> [(
+    Instruction,
+    &'static str,
+    &'static str,
+    SentFunctions,
+    &'static str,
+); 7] {
     [
         (complete(0, 0), "", RC, ONLY_RC, r#"$RC("B:0","S:0")"#),
         (
@@ -122,7 +128,7 @@ fn scripts_define_a_function_once(rt: HostRuntime) -> Result<(), Fail> {
     for (instruction, prefix, definition, after, call) in rows() {
         let prefix = Text::fixed(prefix);
         let mut out = b"<p>".to_vec(alloc)?;
-        let mut sent = Sent::none();
+        let mut sent = SentFunctions::none();
         push_script(alloc, &mut out, &instruction, &prefix, &mut sent)?;
         assert_eq!(rt; sent, after);
         push_script(alloc, &mut out, &instruction, &prefix, &mut sent)?;
@@ -141,7 +147,7 @@ fn bodies_are_read_as_they_were_written(rt: HostRuntime) -> Result<(), Fail> {
     for (instruction, prefix, definition, after, call) in rows() {
         let prefix = Text::fixed(prefix);
         let body = format!(in alloc; "{definition}{call}")?;
-        let mut known = Sent::none();
+        let mut known = SentFunctions::none();
         let unknown = read_script_body(alloc, call.as_bytes(), &prefix, &mut known);
         assert!(rt;
             matches!(&unknown, Err(BodyFault::UnknownFunction)),

@@ -18,7 +18,7 @@ ReadAnswers file most (Err NoFile) = file ≡ None
 ReadAnswers file most (Err Failed) = ⊤
 ReadAnswers file most (Err OutOfMemory) = ⊤
 
--- a read of files that are told answers of what stands under the name; of others it finds no file missing
+-- a read of known files answers of what stands under the name; of others it finds no file missing
 abbrev pub Reads : Option Contents → List ℕ → ℕ → Result FileBytes FilesRefused → Type 0
 Reads None name most result = result ≢ Err NoFile
 Reads (Some at) name most result = ReadAnswers (at name) most result

@@ -1,6 +1,7 @@
--- What the sink and the files in memory are seen as.
-use Rattle.std.specs.Prelude.{ℕ, ◌+◌, ◌-◌, ◌^◌, min, List, [], ◌∷◌, ◌++◌, Option, Some, None, if◌then◌else◌}
+-- What contracts see of the sink and of the files in memory.
+use Rattle.std.specs.Prelude.{ℕ, ◌+◌, ◌-◌, ◌^◌, min, List, [], ◌∷◌, ◌++◌, map, Vec, Option, Some, None, if◌then◌else◌}
 use Rattle.std.specs.Str.{bytes_eq}
+use Rattle.std.specs.declared.alloc.Global.{Global}
 
 -- a sink in memory: its bytes, the numbers of the calls that fail, how many calls it answered, and its faults
 pub record SinkRecord : Type 0 where
@@ -21,32 +22,36 @@ pub record FilesRecord : Type 0 where
   pub calls : ℕ
   pub faults : ℕ
 
+-- the files that the code keeps as names and vectors
+abbrev pub entry_of : (List ℕ × Vec ℕ Global) → Entry
+entry_of pair = record { name = pair.0; bytes = pair.1.items }
+
+abbrev pub entries_of : List (List ℕ × Vec ℕ Global) → List Entry
+entries_of pairs = map entry_of pairs
+
 -- the bytes of the first file of this name
 abbrev pub file_at : List Entry → List ℕ → Option (List ℕ)
 file_at [] name = None
 file_at (entry ∷ entries) name = if bytes_eq entry.name name then Some entry.bytes else file_at entries name
 
--- one more, in 64 bits
-abbrev pub counted : ℕ → ℕ
-counted n = min (n + 1) (2 ^ 64 - 1)
+-- one more, and at most what 64 bits hold
+abbrev pub next_count : ℕ → ℕ
+next_count n = min (n + 1) (2 ^ 64 - 1)
 
--- the sink after a call that was answered, and after one that failed
-abbrev pub sink_answered : SinkRecord → SinkRecord
-sink_answered s = record s { calls = counted s.calls }
-
+-- the sink after a call that failed
 abbrev pub sink_failed : SinkRecord → SinkRecord
-sink_failed s = record s { calls = counted s.calls; faults = counted s.faults }
+sink_failed s = record s { calls = next_count s.calls; faults = next_count s.faults }
 
 -- the sink after it took the bytes
 abbrev pub sink_took : SinkRecord → List ℕ → SinkRecord
-sink_took s bytes = record s { bytes = s.bytes ++ bytes; calls = counted s.calls }
+sink_took s bytes = record s { bytes = s.bytes ++ bytes; calls = next_count s.calls }
 
 -- the files after a call that was answered, and after one that failed
 abbrev pub files_answered : FilesRecord → FilesRecord
-files_answered f = record f { calls = counted f.calls }
+files_answered f = record f { calls = next_count f.calls }
 
 abbrev pub files_failed : FilesRecord → FilesRecord
-files_failed f = record f { calls = counted f.calls; faults = counted f.faults }
+files_failed f = record f { calls = next_count f.calls; faults = next_count f.faults }
 
 -- the files with one more in front
 abbrev pub files_with : FilesRecord → List ℕ → List ℕ → FilesRecord

@@ -5,7 +5,7 @@ use Rattle.fizz_outside.specs.declared.sink.SinkRefused.{SinkRefused}
 use Rattle.fizz_outside.specs.declared.sink.SinkRefused.TheVariants.{Failed}
 use Rattle.fizz_outside.specs.Faults.{FaultCounted}
 
--- all of the bytes were appended, or by a refusal some front of them
+-- all of the bytes were appended, or by a refusal some prefix of them
 abbrev pub Takes : {T : Type 0} → Option (List ℕ) → Option (List ℕ) → List ℕ → Result T SinkRefused → Type 0
 Takes old new bytes (Ok v) = Appends old new bytes
 Takes old new bytes (Err e) = (n : ℕ) × Appends old new (take n bytes)

@@ -7,7 +7,7 @@ use std::alloc::Global;
 use std::io::{ErrorKind, Read};
 use std::{fs, io, rt};
 
-/// The files of the system. It tells nothing of them, and counts each error as a fault, a missing
+/// The files of the system. Nothing is known of them, and each error counts as a fault, a missing
 /// file included.
 #[derive(Drop)]
 pub struct DiskFiles<'a, R: rt::Files> {
@@ -38,7 +38,7 @@ impl<'a, R: rt::Files> DiskFiles<'a, R> {
         Ok(FileBytes::Whole(bytes))
     }
 
-    /// What an error of the system is told as. Want of memory is no fault.
+    /// The refusal for an error of the system. No memory is no fault.
     fn refused(&mut self, error: io::Error) -> FilesRefused
         ensures never { result ≢ FilesRefused.NoFile }
         ensures later { self.old.faults ≤ self.new.faults }

@@ -1,6 +1,6 @@
 //! What fizz reaches outside of itself, each behind a trait: sinks of bytes, files by name, and the
-//! gate that a worker passes before it renders. Beside each trait stand an object in memory that
-//! tells all of it and an adapter over the real thing.
+//! gate that a worker passes before it renders. Beside each trait stand an object in memory of which
+//! all is known and an adapter over the real thing.
 #![tactic(auto)]
 
 mod calls;

@@ -1,12 +1,11 @@
-ghost use Rattle.std.specs.Prelude.{◌≡◌, ◌≢◌, ◌≤◌, ◌↔◌, ◌++◌, [], ◌∷◌, Some, None, Ok, Err, Contains, OnOk, OnErr, IfErr, map, Option};
+ghost use Rattle.std.specs.Prelude.{◌≡◌, ◌≢◌, ◌≤◌, ◌↔◌, ◌++◌, [], ◌∷◌, Some, None, Ok, Err, Contains, OnOk, OnErr, IfOk, Option};
 ghost use Rattle.std.specs.Option.{option_map};
-ghost use Rattle.fizz_outside.specs.Memory.{file_at, files_answered, files_failed, files_with};
+ghost use Rattle.fizz_outside.specs.Memory.{entries_of, file_at, files_answered, files_failed, files_with};
 ghost use Rattle.fizz_outside.specs.FileContents.{ReadAnswers, Reads, Writes, HasFileCause};
-ghost use Rattle.fizz_outside.specs.MemoryEntries.{entries_of};
 
 use crate::calls::is_listed;
 use crate::files::{FileBytes, Files, FilesRefused};
-use fizz_text::Text;
+use fizz_text::{OutOfMemory, Text};
 use std::alloc::Global;
 use std::marker::Model;
 
@@ -22,18 +21,23 @@ pub struct MemoryFiles {
 }
 
 impl Model for MemoryFiles {
-    ghost use Rattle.fizz_outside.specs.Memory.{FilesRecord};
-    ghost use Rattle.fizz_outside.specs.MemoryEntries.{entries_of};
+    ghost use Rattle.fizz_outside.specs.Memory.{FilesRecord, entries_of};
 
     ghost Value = { FilesRecord };
 
-    ghost view = { λ f. record { entries = entries_of f.entries.items; fails = f.fails.items; calls = f.calls; faults = f.faults } };
+    ghost view = { λ f. record {
+      entries = entries_of f.entries.items;
+      fails = f.fails.items;
+      calls = f.calls;
+      faults = f.faults;
+    } };
 }
 
 impl MemoryFiles {
     /// The files, and the numbers of the calls that fail. Of a name that stands twice the first counts.
     pub fn new(alloc: Global, files: Vec<(Text, Vec<u8>)>, fails: Vec<u32>) -> MemoryFiles
-        ensures { result ≡ record { entries = entries_of files.items; fails = fails.items; calls = 0; faults = 0 } }
+        ensures { result
+            ≡ record { entries = entries_of files.items; fails = fails.items; calls = 0; faults = 0 } }
     {
         MemoryFiles {
             alloc,
@@ -73,23 +77,24 @@ impl MemoryFiles {
         match self.get(name) {
             None => Err(FilesRefused::NoFile),
             Some(bytes) if bytes.len() > most => Ok(FileBytes::TooLong),
-            Some(bytes) => Ok(FileBytes::Whole(Vec::from_slice(self.alloc, bytes)?)),
+            Some(bytes) => Ok(FileBytes::Whole(copy_of(self.alloc, bytes)?)),
         }
     }
 
-    fn put(&mut self, name: &Text, bytes: &[u8]) -> Result<(), FilesRefused>
+    fn put(&mut self, name: &Text, bytes: &[u8]) -> Result<(), OutOfMemory>
         ensures ok { OnOk result (self.new ≡ files_with self.old name.now bytes.now) }
         ensures err { OnErr result (self.new ≡ self.old) }
-        ensures memory { IfErr result (λ e. e ≡ FilesRefused.OutOfMemory) }
     {
-        let entry = (
-            name.copy(self.alloc)
-                .map_err(|_| FilesRefused::OutOfMemory)?,
-            Vec::from_slice(self.alloc, bytes)?,
-        );
+        let entry = (name.copy(self.alloc)?, Vec::from_slice(self.alloc, bytes)?);
         self.entries.insert(0, entry)?;
         Ok(())
     }
+}
+
+fn copy_of(alloc: Global, bytes: &[u8]) -> Result<Vec<u8>, OutOfMemory>
+    ensures { IfOk result (λ copy. copy.items ≡ bytes.now) }
+{
+    Ok(Vec::from_slice(alloc, bytes)?)
 }
 
 fn find_file<'a>(entries: &'a [(Text, Vec<u8>)], name: &Text) -> Option<&'a [u8]>
@@ -114,7 +119,8 @@ impl Files for MemoryFiles {
         ensures cause { HasFileCause self.old.faults self.new.faults result }
         ensures listed { (result ≡ Err FilesRefused.Failed) ↔ Contains self.old.fails self.old.calls }
         ensures failed { result ≡ Err FilesRefused.Failed → self.new ≡ files_failed self.old }
-        ensures answered { result ≢ Err FilesRefused.Failed → result ≢ Err FilesRefused.OutOfMemory → self.new ≡ files_answered self.old }
+        ensures answered { result ≢ Err FilesRefused.Failed → result ≢ Err FilesRefused.OutOfMemory
+            → self.new ≡ files_answered self.old }
         ensures memory { result ≡ Err FilesRefused.OutOfMemory → self.new ≡ self.old }
     {
         if is_listed(&self.fails, self.calls) {

@@ -21,7 +21,12 @@ impl Model for MemorySink {
 
     ghost Value = { SinkRecord };
 
-    ghost view = { λ s. record { bytes = s.bytes.items; fails = s.fails.items; calls = s.calls; faults = s.faults } };
+    ghost view = { λ s. record {
+      bytes = s.bytes.items;
+      fails = s.fails.items;
+      calls = s.calls;
+      faults = s.faults;
+    } };
 }
 
 impl MemorySink {
@@ -54,7 +59,7 @@ impl MemorySink {
 }
 
 impl Sink for MemorySink {
-    ghost held = { λ s. Some s.bytes };
+    ghost contents = { λ s. Some s.bytes };
 
     ghost faults = { λ s. s.faults };
 

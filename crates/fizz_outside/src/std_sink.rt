@@ -6,8 +6,8 @@ ghost use Rattle.fizz_outside.specs.Faults.{FaultCounted};
 use crate::sink::{Sink, SinkRefused};
 use std::io::{ErrorKind, Write};
 
-/// A sink over a writer, as standard output or standard error. It tells what its writer tells, which
-/// over those two is nothing, and counts each error of its writer as a fault.
+/// A sink over a writer, as standard output or standard error. Its contents are known where its
+/// writer's are, which over those two they aren't. It counts each error of its writer as a fault.
 #[derive(Drop)]
 pub struct StdSink<W: Write> {
     writer: W,
@@ -27,7 +27,8 @@ impl<W: Write> StdSink<W> {
     fn write_some(&mut self, bytes: &[u8]) -> Option<usize>
         requires { 0 < length bytes.now }
         ensures taken { MatchOption result (Keeps (W.contents self.old.writer) (W.contents self.new.writer))
-            (λ n. (0 < n) × (n ≤ length bytes.now) × Appends (W.contents self.old.writer) (W.contents self.new.writer) (take n bytes.now)) }
+            (λ n. (0 < n) × (n ≤ length bytes.now)
+            × Appends (W.contents self.old.writer) (W.contents self.new.writer) (take n bytes.now)) }
         ensures faults { self.new.faults ≡ self.old.faults }
     {
         'tries: for _ in 0..u64::MAX {
@@ -43,7 +44,7 @@ impl<W: Write> StdSink<W> {
 }
 
 impl<W: Write> Sink for StdSink<W> {
-    ghost held = { λ s. W.contents s.writer };
+    ghost contents = { λ s. W.contents s.writer };
 
     ghost faults = { λ s. s.faults };
 

@@ -1,5 +1,6 @@
 ghost use Rattle.std.specs.Prelude.{◌≡◌, ◌≤◌, ◌<◌, length};
-ghost use Rattle.fizz_text.specs.Hexadecimal.{IsHexadecimal, hexadecimal, hex_digit};
+ghost use Rattle.std.specs.Char.{digit_char};
+ghost use Rattle.fizz_text.specs.Hexadecimal.{IsHexadecimal, hexadecimal};
 
 use std::marker::Model;
 
@@ -56,9 +57,10 @@ pub fn hex_of(n: u32) -> HexText
     HexText { digits, start }
 }
 
+/// The digit of a value.
 fn digit_of(value: u32) -> u8
     requires { value < 16 }
-    ensures { result ≡ hex_digit value }
+    ensures { result ≡ digit_char value }
 {
     if value < 10 {
         b'0' + value as u8

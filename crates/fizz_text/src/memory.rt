@@ -1,17 +1,19 @@
 use std::alloc::{AllocError, AllocFailed};
+use thiserror::Error;
 
-/// The one refusal that no clause ties to a cause: no memory was found.
-#[derive(Clone, Copy, Debug, PartialEq, Eq)]
+/// No memory was found. Any call that answers it may do so at any time.
+#[derive(Clone, Copy, Debug, PartialEq, Eq, Error)]
+#[error("out of memory")]
 pub struct OutOfMemory;
 
 impl From<AllocError> for OutOfMemory {
-    fn from(_e: AllocError) -> OutOfMemory {
+    fn from(_error: AllocError) -> OutOfMemory {
         OutOfMemory
     }
 }
 
 impl<T: Drop> From<AllocFailed<T>> for OutOfMemory {
-    fn from(_e: AllocFailed<T>) -> OutOfMemory {
+    fn from(_error: AllocFailed<T>) -> OutOfMemory {
         OutOfMemory
     }
 }

@@ -12,7 +12,7 @@ fn texts_keep_their_bytes(rt: HostRuntime) -> Result<(), Fail> {
     Ok(())
 }
 
-/// Each refused list of bytes with the length of its longest front that is UTF-8: a lone
+/// Each refused list of bytes with the length of its longest prefix that is UTF-8: a lone
 /// continuation byte, a cut character, an overlong form, a surrogate, a code above U+10FFFF.
 #[test]
 fn refused_bytes_come_back(rt: HostRuntime) -> Result<(), Fail> {

@@ -5,6 +5,7 @@ use crate::memory::OutOfMemory;
 use std::alloc::Global;
 use std::convert::AsStr;
 use std::marker::Model;
+use thiserror::Error;
 
 /// A text: bytes that are UTF-8. Contracts see it as the list of its bytes.
 #[derive(Debug, Drop)]
@@ -32,8 +33,9 @@ impl Model for Text {
     ghost invariant = { λ t. IsUtf8 (content t.store) };
 }
 
-/// Bytes that are no text. They come back beside the length of their longest front that is UTF-8.
-#[derive(Debug, Drop)]
+/// Bytes that are no text. They come back beside the length of their longest prefix that is UTF-8.
+#[derive(Debug, Drop, Error)]
+#[error("no UTF-8 from byte {valid} on")]
 pub struct NotUtf8 {
     pub valid: usize,
     pub bytes: Vec<u8>,

@@ -5,8 +5,9 @@ use Rattle.std.specs.List.{list_all}
 use Rattle.std.specs.Map.{lookup}
 use Rattle.std.specs.Str.{bytes_eq}
 use Rattle.html_names.specs.declared.attributes.AttrKind.{AttrKind}
-use Rattle.html_names.specs.declared.attributes.AttrKind.TheVariants.{Plain, Flag, Spoken, Id, Key}
-use Rattle.html_names.specs.Names.{begins_with}
+use Rattle.html_names.specs.declared.attributes.AttrKind.TheVariants.{Plain, Boolean, Booleanish, Id, Key}
+use Rattle.fizz_text.specs.Ascii.{hyphen}
+use Rattle.html_names.specs.Names.{begins_with, is_digit, is_small_letter}
 
 -- What an attribute means: the name that is printed, where it is another than the one that is written, and the kind.
 abbrev pub Meaning : Type 0
@@ -16,36 +17,40 @@ Meaning = Option (List ℕ) × AttrKind
 unfoldable pub attribute_rows : List (List ℕ × Meaning)
 attribute_rows =
     (codes "className", (Some (codes "class"), Plain)) ∷
-    (codes "htmlFor", (Some (codes "for"), Plain)) ∷
-    (codes "title", (None, Plain)) ∷
-    (codes "lang", (None, Plain)) ∷
-    (codes "dir", (None, Plain)) ∷
-    (codes "role", (None, Plain)) ∷
-    (codes "href", (None, Plain)) ∷
-    (codes "target", (None, Plain)) ∷
-    (codes "rel", (None, Plain)) ∷
     (codes "cite", (None, Plain)) ∷
+    (codes "dir", (None, Plain)) ∷
+    (codes "disabled", (None, Boolean)) ∷
+    (codes "hidden", (None, Boolean)) ∷
+    (codes "href", (None, Plain)) ∷
+    (codes "htmlFor", (Some (codes "for"), Plain)) ∷
     (codes "id", (None, Id)) ∷
-    (codes "hidden", (None, Flag)) ∷
-    (codes "disabled", (None, Flag)) ∷
-    (codes "open", (None, Flag)) ∷
     (codes "key", (None, Key)) ∷
+    (codes "lang", (None, Plain)) ∷
+    (codes "open", (None, Boolean)) ∷
+    (codes "rel", (None, Plain)) ∷
+    (codes "role", (None, Plain)) ∷
+    (codes "target", (None, Plain)) ∷
+    (codes "title", (None, Plain)) ∷
     []
 
 -- A byte that may follow `aria-` and `data-`: a to z, 0 to 9 and `-`.
-abbrev pub is_spoken_byte : ℕ → Bool
-is_spoken_byte b = (nat_lt 96 b && nat_lt b 123) || (nat_lt 47 b && nat_lt b 58) || b == 45
+abbrev pub is_suffix_byte : ℕ → Bool
+is_suffix_byte b = is_small_letter b || (is_digit b || b == hyphen)
+
+-- `aria-` or `data-` begins the name.
+abbrev pub has_prefix : List ℕ → Bool
+has_prefix name = begins_with (codes "aria-") name || begins_with (codes "data-") name
 
 -- `aria-` or `data-` and one or more such bytes. The renderer writes `data-dgst` itself, and so a source may not.
-abbrev pub is_spoken_name : List ℕ → Bool
-is_spoken_name name =
+abbrev pub is_prefixed_name : List ℕ → Bool
+is_prefixed_name name =
     let rest = drop 5 name in
-    (begins_with (codes "aria-") name || begins_with (codes "data-") name)
-    && (nat_lt 0 (length rest) && list_all is_spoken_byte rest) && not (bytes_eq name (codes "data-dgst"))
+    has_prefix name && (nat_lt 0 (length rest) && list_all is_suffix_byte rest)
+    && not (bytes_eq name (codes "data-dgst"))
 
 -- The attribute of this name, or None where there is no such attribute.
 abbrev pub attribute_of : List ℕ → Option Meaning
-attribute_of name = if is_spoken_name name then Some (None, Spoken) else lookup (bytes_eq name) attribute_rows
+attribute_of name = if is_prefixed_name name then Some (None, Booleanish) else lookup (bytes_eq name) attribute_rows
 
 -- The name that is printed for an attribute that is written `name`.
 abbrev pub printed_name : List ℕ → Meaning → List ℕ
@@ -55,4 +60,5 @@ printed_name name meaning = unwrap_or meaning.0 name
 abbrev pub is_reserved : List ℕ → List ℕ → Bool
 is_reserved prefix value =
     let rest = drop (length prefix) value in
-    begins_with prefix value && (begins_with (codes "B:") rest || begins_with (codes "S:") rest || begins_with (codes "P:") rest)
+    begins_with prefix value
+    && (begins_with (codes "B:") rest || begins_with (codes "S:") rest || begins_with (codes "P:") rest)

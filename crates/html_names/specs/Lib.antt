@@ -1,7 +1,7 @@
 pub mod Attributes
+pub mod Comments
 pub mod Elements
 pub mod Escape
-pub mod Faults
 pub mod JsStrings
 pub mod Names
 pub mod Printing

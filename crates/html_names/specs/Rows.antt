@@ -1,4 +1,5 @@
--- The code's tables and values, as the definitions write them.
+-- The code's tables and values, as the definitions write them. Of the public clauses only that of `attribute` reads
+-- them, by `meaning_of`.
 use Rattle.std.specs.Prelude.{ℕ, List, Option, None, Some}
 use Rattle.std.proofs.Common.{Bor}
 use Rattle.html_names.specs.declared.attributes.AttrKind.{AttrKind}

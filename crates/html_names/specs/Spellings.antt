@@ -1,4 +1,4 @@
--- The code's choice of a spelling, as the definitions make it.
+-- The code's choice of a spelling, as the definitions make it. This is for private functions.
 use Rattle.std.specs.Prelude.{◌≡◌, ℕ, true, false, None, Some}
 use Rattle.html_names.specs.JsStrings.{short_letter, is_coded}
 use Rattle.html_names.specs.declared.js_string.Spelling.{Spelling}

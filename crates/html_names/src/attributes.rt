@@ -6,9 +6,9 @@ pub enum AttrKind {
     /// A number and a text are printed, and nothing else is.
     Plain,
     /// Printed with an empty value where the value is true.
-    Flag,
+    Boolean,
     /// A number, a text and a truth value are printed.
-    Spoken,
+    Booleanish,
     /// As `Plain`, save that an id of the renderer's own is left out (`is_reserved_id`).
     Id,
     /// Not printed.
@@ -31,21 +31,24 @@ pub struct Attribute {
     pub kind: AttrKind,
 }
 
-/// The attributes that go by one name: the name, the name that is printed, and the kind.
-pub(crate) static ATTRIBUTES: [(&str, (AttrName, AttrKind)); 15] = [
+/// A name, the name that is printed, and the kind.
+pub(crate) type AttributeRow = (&'static str, (AttrName, AttrKind));
+
+/// The attributes that go by one name, by their first bytes.
+pub(crate) static ATTRIBUTES: [AttributeRow; 15] = [
     ("className", (AttrName::Fixed("class"), AttrKind::Plain)),
-    ("htmlFor", (AttrName::Fixed("for"), AttrKind::Plain)),
-    ("title", (AttrName::Own, AttrKind::Plain)),
-    ("lang", (AttrName::Own, AttrKind::Plain)),
-    ("dir", (AttrName::Own, AttrKind::Plain)),
-    ("role", (AttrName::Own, AttrKind::Plain)),
-    ("href", (AttrName::Own, AttrKind::Plain)),
-    ("target", (AttrName::Own, AttrKind::Plain)),
-    ("rel", (AttrName::Own, AttrKind::Plain)),
     ("cite", (AttrName::Own, AttrKind::Plain)),
+    ("dir", (AttrName::Own, AttrKind::Plain)),
+    ("disabled", (AttrName::Own, AttrKind::Boolean)),
+    ("hidden", (AttrName::Own, AttrKind::Boolean)),
+    ("href", (AttrName::Own, AttrKind::Plain)),
+    ("htmlFor", (AttrName::Fixed("for"), AttrKind::Plain)),
     ("id", (AttrName::Own, AttrKind::Id)),
-    ("hidden", (AttrName::Own, AttrKind::Flag)),
-    ("disabled", (AttrName::Own, AttrKind::Flag)),
-    ("open", (AttrName::Own, AttrKind::Flag)),
     ("key", (AttrName::Own, AttrKind::Key)),
+    ("lang", (AttrName::Own, AttrKind::Plain)),
+    ("open", (AttrName::Own, AttrKind::Boolean)),
+    ("rel", (AttrName::Own, AttrKind::Plain)),
+    ("role", (AttrName::Own, AttrKind::Plain)),
+    ("target", (AttrName::Own, AttrKind::Plain)),
+    ("title", (AttrName::Own, AttrKind::Plain)),
 ];

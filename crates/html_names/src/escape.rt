@@ -2,19 +2,21 @@
 
 ghost use Rattle.std.specs.Prelude.{◌≡◌, ◌≢◌, ◌++◌, ◌⊎◌, ◌↔◌, ◌<◌, ◌≤◌, ℕ, Bool, true, false, List, [], if◌then◌else◌, is_ok, length, take, drop, slice_index, IfOk, IfErr, OnOk, OnErr, MatchOption};
 ghost use Rattle.std.specs.Str.{IsUtf8};
-ghost use Rattle.html_names.specs.Escape.{spelling_of, escaped, begins_badly, begins_entity, IsClean, IsEscaped, IsEscapedFront, IsTextAndOpen};
-ghost use Rattle.html_names.specs.Faults.{HasCause};
+ghost use Rattle.html_names.specs.Escape.{spelling_of, escape_of, begins_badly, begins_entity, BeginsWithNoSpelling, HasEntityCause, IsNoMark, IsClean, IsEscaped, IsEscapedPrefix, IsTextAndOpen};
 ghost use Rattle.html_names.specs.declared.escape.EntityFault.TheVariants.{OutOfMemory as Memory};
 
-use crate::memory::OutOfMemory;
-use std::alloc::{AllocError, AllocFailed, Global};
+use fizz_text::OutOfMemory;
+use std::alloc::{AllocError, Global};
+use thiserror::Error;
 
 /// Why bytes are no escaped text.
-#[derive(Clone, Copy, Debug, PartialEq, Eq, Drop)]
+#[derive(Clone, Copy, Debug, PartialEq, Eq, Drop, Error)]
 pub enum EntityFault {
     /// At the byte `at` stands one of `"`, `'`, `<` and `>`, or an `&` that begins none of the five replacements. It
     /// is the first such place.
+    #[error("no escaped text from byte {at} on")]
     BadEntity { at: usize },
+    #[error("out of memory")]
     OutOfMemory,
 }
 
@@ -26,18 +28,10 @@ impl From<AllocError> for EntityFault {
     }
 }
 
-impl<T: Drop> From<AllocFailed<T>> for EntityFault {
-    ghost from_gives = { λ _ e. e ≡ Memory };
-
-    fn from(_error: AllocFailed<T>) -> EntityFault {
-        EntityFault::OutOfMemory
-    }
-}
-
 /// Appends the escaped text: `"`, `&`, `'`, `<` and `>` are written `&quot;`, `&amp;`, `&#x27;`, `&lt;` and `&gt;`, as
 /// React's server renderer writes them. Where memory runs out, `out` stays as it was.
 pub fn push_escaped(out: &mut Vec<u8>, text: &[u8]) -> Result<(), OutOfMemory>
-    ensures appended { OnOk result (out.new.items ≡ out.old.items ++ escaped text.now) }
+    ensures appended { OnOk result (out.new.items ≡ out.old.items ++ escape_of text.now) }
     ensures unchanged { OnErr result (out.new.items ≡ out.old.items) }
     ensures utf8 { IsUtf8 text.now → IsUtf8 out.old.items → IsUtf8 out.new.items }
 {
@@ -51,8 +45,8 @@ pub fn push_escaped(out: &mut Vec<u8>, text: &[u8]) -> Result<(), OutOfMemory>
 
 /// The same, where `out` may keep a part of it after an error.
 fn append_escaped(out: &mut Vec<u8>, text: &[u8]) -> Result<(), AllocError>
-    ensures appended { OnOk result (out.new.items ≡ out.old.items ++ escaped text.now) }
-    ensures front { take (length out.old.items) out.new.items ≡ out.old.items }
+    ensures appended { OnOk result (out.new.items ≡ out.old.items ++ escape_of text.now) }
+    ensures kept { take (length out.old.items) out.new.items ≡ out.old.items }
 {
     let mut rest = text;
     loop {
@@ -66,10 +60,10 @@ fn append_escaped(out: &mut Vec<u8>, text: &[u8]) -> Result<(), AllocError>
     }
 }
 
-/// How many bytes at the front are written as they are.
+/// How many bytes at the start are written as they are.
 fn plain_length(text: &[u8]) -> usize
     ensures within { result ≤ length text.now }
-    ensures plain { escaped (take result text.now) ≡ take result text.now }
+    ensures plain { escape_of (take result text.now) ≡ take result text.now }
 {
     for (at, byte) in text.iter().enumerate() {
         if matches!(*byte, b'"' | b'&' | b'\'' | b'<' | b'>') {
@@ -94,17 +88,19 @@ fn push_spelling(out: &mut Vec<u8>, byte: u8) -> Result<(), AllocError>
 
 /// The one text that is escaped as `bytes`.
 pub fn unescape(alloc: Global, bytes: &[u8]) -> Result<Vec<u8>, EntityFault>
-    ensures found { IfOk result (λ text. escaped text.items ≡ bytes.now) }
-    ensures one { (text : List ℕ) → escaped text ≡ bytes.now → IfOk result (λ found. found.items ≡ text) }
+    ensures found { IfOk result (λ text. escape_of text.items ≡ bytes.now) }
+    ensures one { (text : List ℕ) → escape_of text ≡ bytes.now → IfOk result (λ found. found.items ≡ text) }
     ensures clean { OnOk result (IsClean bytes.now) }
     ensures utf8 { IsUtf8 bytes.now → IfOk result (λ text. IsUtf8 text.items) }
-    ensures refused { IfErr result (HasCause bytes.now) }
+    ensures refused { IfErr result (HasEntityCause bytes.now) }
 {
-    let mut text = Vec::new(alloc);
+    let mut text = Vec::with_capacity(alloc, bytes.len())?;
     let mut rest = bytes;
     while let Some((byte, more)) = split_spelling(rest) {
-        text.push(byte)?;
-        rest = more;
+        text.extend_from_slice(&[byte])?;
+        let (plain, marked) = more.split_at(plain_length(more));
+        text.extend_from_slice(plain)?;
+        rest = marked;
     }
     if rest.is_empty() {
         Ok(text)
@@ -117,7 +113,8 @@ pub fn unescape(alloc: Global, bytes: &[u8]) -> Result<Vec<u8>, EntityFault>
 
 /// The byte whose spelling begins `rest`, and what follows.
 fn split_spelling(rest: &[u8]) -> Option<(u8, &[u8])>
-    ensures { MatchOption result ((rest.now ≡ []) ⊎ (begins_badly rest.now ≡ true)) (λ found. rest.now ≡ spelling_of found.0 ++ found.1.now) }
+    ensures { MatchOption result (BeginsWithNoSpelling rest.now)
+        (λ found. rest.now ≡ spelling_of found.0 ++ found.1.now) }
 {
     let (first, more) = rest.split_first()?;
     match *first {
@@ -128,7 +125,8 @@ fn split_spelling(rest: &[u8]) -> Option<(u8, &[u8])>
 }
 
 fn split_entity(rest: &[u8]) -> Option<(u8, &[u8])>
-    ensures { MatchOption result (begins_entity rest.now ≡ false) (λ found. rest.now ≡ spelling_of found.0 ++ found.1.now) }
+    ensures { MatchOption result (begins_entity rest.now ≡ false)
+        (λ found. rest.now ≡ spelling_of found.0 ++ found.1.now) }
 {
     if let Some(more) = rest.strip_prefix(b"&quot;") {
         Some((b'"', more))
@@ -148,12 +146,12 @@ fn split_entity(rest: &[u8]) -> Option<(u8, &[u8])>
 /// Laws of escaping: one text for one spelling, piece by piece, UTF-8 for UTF-8, no bad place in an
 /// escaped text, whatever follows it, no `"`, `'`, `<` and `>` in it, and what begins an escaped text.
 pub fn laws_of_escaping()
-    ensures one { (a b : List ℕ) → escaped a ≡ escaped b → a ≡ b }
-    ensures joined { (a b : List ℕ) → escaped (a ++ b) ≡ escaped a ++ escaped b }
-    ensures utf8 { (text : List ℕ) → IsUtf8 text ↔ IsUtf8 (escaped text) }
+    ensures one { (a b : List ℕ) → escape_of a ≡ escape_of b → a ≡ b }
+    ensures joined { (a b : List ℕ) → escape_of (a ++ b) ≡ escape_of a ++ escape_of b }
+    ensures utf8 { (text : List ℕ) → IsUtf8 text ↔ IsUtf8 (escape_of text) }
     ensures clean { (bytes : List ℕ) → IsClean bytes ↔ IsEscaped bytes }
-    ensures inside { (text more : List ℕ) (k : ℕ) → k < length (escaped text) → begins_badly (drop k (escaped text ++ more)) ≡ false }
-    ensures unmarked { (text : List ℕ) (k : ℕ) → (slice_index (escaped text) k ≢ 34) × (slice_index (escaped text) k ≢ 39)
-        × (slice_index (escaped text) k ≢ 60) × (slice_index (escaped text) k ≢ 62) }
-    ensures front { (bytes : List ℕ) → IsEscapedFront bytes ↔ IsTextAndOpen bytes }
+    ensures inside { (text more : List ℕ) (k : ℕ) → k < length (escape_of text)
+        → begins_badly (drop k (escape_of text ++ more)) ≡ false }
+    ensures unmarked { (text : List ℕ) (k : ℕ) → IsNoMark (slice_index (escape_of text) k) }
+    ensures prefix { (bytes : List ℕ) → IsEscapedPrefix bytes ↔ IsTextAndOpen bytes }
 {}

@@ -3,11 +3,12 @@
 ghost use Rattle.std.specs.Prelude.{◌≡◌, ◌≢◌, ◌++◌, ◌∷◌, ℕ, ◌<◌, ◌≤◌, ◌^◌, List, [], Bool, true, false, if◌then◌else◌, is_ok, length, take, drop, slice_index, Option, Some, None, IfOk, OnOk, OnErr, MatchOption, option_map};
 ghost use Rattle.std.specs.Char.{encode_utf8, digit_char, IsScalar, len_utf8};
 ghost use Rattle.std.specs.Str.{IsUtf8, StartsWithNoChar};
-ghost use Rattle.html_names.specs.JsStrings.{short_letter, is_coded, four_digits, char_spelling, js_string, BeginsNoChar, BeginsNoString, IsStringAtFront};
+ghost use Rattle.fizz_text.specs.Ascii.{backslash, less_than_sign, small_u};
+ghost use Rattle.html_names.specs.JsStrings.{short_letter, is_coded, coded_escape, four_digits, char_spelling, js_string, BeginsNoChar, BeginsNoString, BeginsWithString};
 ghost use Rattle.html_names.specs.Spellings.{IsSpelled};
 ghost use Rattle.html_names.specs.declared.js_string.Spelling.TheVariants.{Coded};
 
-use crate::memory::OutOfMemory;
+use fizz_text::OutOfMemory;
 use std::alloc::{AllocError, Global};
 use std::str;
 
@@ -31,7 +32,7 @@ pub fn push_js_string(out: &mut Vec<u8>, text: &[u8]) -> Result<(), OutOfMemory>
 fn push_quoted(out: &mut Vec<u8>, text: &[u8]) -> Result<(), AllocError>
     requires { IsUtf8 text.now }
     ensures appended { OnOk result (out.new.items ≡ out.old.items ++ js_string text.now) }
-    ensures front { take (length out.old.items) out.new.items ≡ out.old.items }
+    ensures kept { take (length out.old.items) out.new.items ≡ out.old.items }
 {
     let text = str::from_utf8(text).unwrap();
     out.push(b'"')?;
@@ -54,7 +55,7 @@ fn push_char(out: &mut Vec<u8>, c: char) -> Result<(), AllocError>
 
 fn push_code(out: &mut Vec<u8>, code: u32) -> Result<(), AllocError>
     requires { code < 2 ^ 16 }
-    ensures { out.new.items ≡ (if is_ok result then out.old.items ++ 92 ∷ 117 ∷ four_digits code else out.old.items) }
+    ensures { out.new.items ≡ (if is_ok result then out.old.items ++ coded_escape code else out.old.items) }
 {
     let [a, b, c, d] = hex_digits(code);
     out.extend_from_slice(&[b'\\', b'u', a, b, c, d])
@@ -134,7 +135,8 @@ fn hex_digit(digit: u32) -> u8
 /// The text whose string begins `bytes`, and how many bytes that string has, or `None` exactly where no text's string
 /// begins them.
 pub fn read_js_string(alloc: Global, bytes: &[u8]) -> Result<Option<(Vec<u8>, usize)>, OutOfMemory>
-    ensures { IfOk result (λ found. MatchOption found (BeginsNoString bytes.now) (λ p. IsStringAtFront bytes.now p.0.items p.1)) }
+    ensures { IfOk result (λ found. MatchOption found (BeginsNoString bytes.now)
+        (λ p. BeginsWithString bytes.now p.0.items p.1)) }
 {
     let Some(mut rest) = bytes.strip_prefix(b"\"") else {
         return Ok(None);
@@ -152,7 +154,8 @@ pub fn read_js_string(alloc: Global, bytes: &[u8]) -> Result<Option<(Vec<u8>, us
 
 /// The character whose spelling begins `rest`, and what follows.
 fn split_char(rest: &[u8]) -> Option<(char, &[u8])>
-    ensures { MatchOption result (BeginsNoChar rest.now) (λ found. rest.now ≡ char_spelling found.0 ++ found.1.now) }
+    ensures { MatchOption result (BeginsNoChar rest.now)
+        (λ found. rest.now ≡ char_spelling found.0 ++ found.1.now) }
 {
     match rest.strip_prefix(b"\\") {
         Some(escape) => split_escape(escape),
@@ -162,7 +165,8 @@ fn split_char(rest: &[u8]) -> Option<(char, &[u8])>
 
 /// The same behind a backslash.
 fn split_escape(escape: &[u8]) -> Option<(char, &[u8])>
-    ensures { MatchOption result (BeginsNoChar (92 ∷ escape.now)) (λ found. 92 ∷ escape.now ≡ char_spelling found.0 ++ found.1.now) }
+    ensures { MatchOption result (BeginsNoChar (backslash ∷ escape.now))
+        (λ found. backslash ∷ escape.now ≡ char_spelling found.0 ++ found.1.now) }
 {
     let Some((letter, more)) = escape.split_first() else {
         return None;
@@ -193,7 +197,8 @@ fn short_char(letter: u8) -> Option<char>
 
 /// The same behind a backslash and `u`.
 fn split_code(digits: &[u8]) -> Option<(char, &[u8])>
-    ensures { MatchOption result (BeginsNoChar (92 ∷ 117 ∷ digits.now)) (λ found. 92 ∷ 117 ∷ digits.now ≡ char_spelling found.0 ++ found.1.now) }
+    ensures { MatchOption result (BeginsNoChar (backslash ∷ small_u ∷ digits.now))
+        (λ found. backslash ∷ small_u ∷ digits.now ≡ char_spelling found.0 ++ found.1.now) }
 {
     let Some((four, more)) = digits.split_first_chunk::<4>() else {
         return None;
@@ -206,7 +211,8 @@ fn split_code(digits: &[u8]) -> Option<(char, &[u8])>
 
 /// The character that is written by this code.
 fn coded_char(four: &[u8; 4]) -> Option<char>
-    ensures { MatchOption result ((c : ℕ) → IsSpelled c Coded → four.now ≢ four_digits c) (λ c. IsSpelled c Coded × (four.now ≡ four_digits c)) }
+    ensures { MatchOption result ((c : ℕ) → IsSpelled c Coded → four.now ≢ four_digits c)
+        (λ c. IsSpelled c Coded × (four.now ≡ four_digits c)) }
 {
     let [a, b, c, d] = *four;
     let code = ((digit_of(a) * 16 + digit_of(b)) * 16 + digit_of(c)) * 16 + digit_of(d);
@@ -237,10 +243,11 @@ fn digit_of(byte: u8) -> u32
     }
 }
 
-/// The character at the front, where it stands for itself.
+/// The character at the start, where it stands for itself.
 fn split_itself(rest: &[u8]) -> Option<(char, &[u8])>
-    requires { (more : List ℕ) → rest.now ≢ 92 ∷ more }
-    ensures { MatchOption result (BeginsNoChar rest.now) (λ found. rest.now ≡ char_spelling found.0 ++ found.1.now) }
+    requires { (more : List ℕ) → rest.now ≢ backslash ∷ more }
+    ensures { MatchOption result (BeginsNoChar rest.now)
+        (λ found. rest.now ≡ char_spelling found.0 ++ found.1.now) }
 {
     let Some(c) = first_char(rest) else {
         return None;
@@ -255,24 +262,26 @@ fn split_itself(rest: &[u8]) -> Option<(char, &[u8])>
 fn first_char(rest: &[u8]) -> Option<char>
     ensures { MatchOption result (StartsWithNoChar rest.now) (λ c. rest.now ≡ encode_utf8 c ++ drop (len_utf8 c) rest.now) }
 {
-    valid_front(rest).chars().next()
+    valid_prefix(rest).chars().next()
 }
 
-/// The UTF-8 at the front, as long as four bytes hold it.
-fn valid_front(rest: &[u8]) -> &str
-    ensures front { result.now ≡ take (length result.now) rest.now }
-    ensures longest { (m : ℕ) → length result.now < m → m ≤ 4 → m ≤ length rest.now → ¬ IsUtf8 (take m rest.now) }
+/// The UTF-8 at the start, as long as four bytes hold it.
+fn valid_prefix(rest: &[u8]) -> &str
+    ensures prefix { result.now ≡ take (length result.now) rest.now }
+    ensures longest { (m : ℕ) → length result.now < m → m ≤ 4 → m ≤ length rest.now
+        → ¬ IsUtf8 (take m rest.now) }
 {
-    let front = &rest[..rest.len().min(4)];
-    match str::from_utf8(front) {
+    let prefix = &rest[..rest.len().min(4)];
+    match str::from_utf8(prefix) {
         Ok(text) => text,
-        Err(fault) => str::from_utf8(&front[..fault.valid_up_to()]).unwrap(),
+        Err(fault) => str::from_utf8(&prefix[..fault.valid_up_to()]).unwrap(),
     }
 }
 
 /// Laws of these strings: each has one text and one end, UTF-8 gives UTF-8, and no `<` stands in one.
 pub fn laws_of_js_strings()
-    ensures one { (a b x y : List ℕ) → IsUtf8 a → IsUtf8 b → js_string a ++ x ≡ js_string b ++ y → (a ≡ b) × (x ≡ y) }
+    ensures one { (a b x y : List ℕ) → IsUtf8 a → IsUtf8 b → js_string a ++ x ≡ js_string b ++ y
+        → (a ≡ b) × (x ≡ y) }
     ensures utf8 { (text : List ℕ) → IsUtf8 text → IsUtf8 (js_string text) }
-    ensures no_mark { (text : List ℕ) (k : ℕ) → slice_index (js_string text) k ≢ 60 }
+    ensures no_mark { (text : List ℕ) (k : ℕ) → slice_index (js_string text) k ≢ less_than_sign }
 {}

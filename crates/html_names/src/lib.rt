@@ -5,17 +5,17 @@
 #![tactic(auto)]
 
 mod attributes;
+mod comments;
 mod elements;
 mod escape;
 mod js_string;
-mod memory;
 mod names;
 
 pub use attributes::{AttrKind, AttrName, Attribute};
+pub use comments::{CommentKind, comment};
 pub use elements::Element;
 pub use escape::{EntityFault, laws_of_escaping, push_escaped, unescape};
 pub use js_string::{laws_of_js_strings, push_js_string, read_js_string};
-pub use memory::OutOfMemory;
 pub use names::{attribute, begins_element, element, is_reserved_id, laws_of_names};
 
 #[cfg(test)]

@@ -42,14 +42,14 @@ fn attributes_are_those_of_the_table(rt: HostRuntime) {
         ("rel", AttrName::Own, AttrKind::Plain),
         ("cite", AttrName::Own, AttrKind::Plain),
         ("id", AttrName::Own, AttrKind::Id),
-        ("hidden", AttrName::Own, AttrKind::Flag),
-        ("disabled", AttrName::Own, AttrKind::Flag),
-        ("open", AttrName::Own, AttrKind::Flag),
+        ("hidden", AttrName::Own, AttrKind::Boolean),
+        ("disabled", AttrName::Own, AttrKind::Boolean),
+        ("open", AttrName::Own, AttrKind::Boolean),
         ("key", AttrName::Own, AttrKind::Key),
-        ("aria-label", AttrName::Own, AttrKind::Spoken),
-        ("data-n", AttrName::Own, AttrKind::Spoken),
-        ("data-0-", AttrName::Own, AttrKind::Spoken),
-        ("data-dgst2", AttrName::Own, AttrKind::Spoken),
+        ("aria-label", AttrName::Own, AttrKind::Booleanish),
+        ("data-n", AttrName::Own, AttrKind::Booleanish),
+        ("data-0-", AttrName::Own, AttrKind::Booleanish),
+        ("data-dgst2", AttrName::Own, AttrKind::Booleanish),
     ];
     for (name, printed, kind) in named {
         let found = attribute(name.as_bytes()).map(|a| (a.printed, a.kind));
@@ -104,14 +104,14 @@ fn texts_are_escaped_and_read_back(rt: HostRuntime) -> Result<(), Fail> {
         ("\"&'<>", "&quot;&amp;&#x27;&lt;&gt;"),
         ("a<b é &amp;", "a&lt;b é &amp;amp;"),
     ];
-    for (text, escaped) in texts {
+    for (text, escape_of) in texts {
         let mut out = "x".as_bytes().to_vec(rt.alloc())?;
         push_escaped(&mut out, text.as_bytes())?;
         assert!(rt;
-            out.strip_prefix(b"x") == Some(escaped.as_bytes()),
+            out.strip_prefix(b"x") == Some(escape_of.as_bytes()),
             "{text}"
         );
-        let read = unescape(rt.alloc(), escaped.as_bytes())?;
+        let read = unescape(rt.alloc(), escape_of.as_bytes())?;
         assert!(rt; read.as_slice() == text.as_bytes(), "{text}");
     }
     Ok(())

@@ -1,4 +1,4 @@
--- What a reader has read, and when its calls refuse. Want of memory may always come.
+-- What a reader has read, and when its calls refuse. `OutOfMemory` may always come.
 use Rattle.std.specs.Prelude.{◌≡◌, ◌≢◌, ℕ, true, Option, Some, None, List, [], ◌++◌, length, ◌⊎◌}
 use Rattle.html_read.specs.declared.token.Token.{Token}
 use Rattle.html_read.specs.declared.fault.ReadKind.{ReadKind}
@@ -6,7 +6,7 @@ use Rattle.html_read.specs.declared.fault.ReadFault.{ReadFault}
 use Rattle.html_read.specs.declared.fault.ReadFault.TheVariants as feeding
 use Rattle.html_read.specs.declared.fault.FinishFault.{FinishFault}
 use Rattle.html_read.specs.declared.fault.FinishFault.TheVariants as finishing
-use Rattle.html_read.specs.Tokens.{spelling, spellings, is_text, place_of, IsTok}
+use Rattle.html_read.specs.Tokens.{spelling, spellings, is_text, place_of, IsToken}
 use Rattle.html_read.specs.Faults.{Splits, HasFault}
 
 -- What a reader holds: the rest that no token ended, the place where it begins, and the fault that was met.
@@ -26,9 +26,11 @@ pub record HasRead (bytes : List ℕ) (toks : List Token) (reader : ReaderState)
   pub sound : reader.fault ≡ None
 
 -- A reader that meets a fault: whatever bytes it was fed before and whatever tokens it gave.
-pub record MeetsFault (old : ReaderState) (piece : List ℕ) (before : List Token) (at : ℕ) (kind : ReadKind) (new : ReaderState) : Type 0 where
+pub record MeetsFault (old : ReaderState) (piece : List ℕ) (before : List Token) (at : ℕ) (kind : ReadKind)
+    (new : ReaderState) : Type 0 where
   pub fault_is : new.fault ≡ Some (at, kind)
-  pub cause : (bytes : List ℕ) (toks : List Token) → HasRead bytes toks old → HasFault (bytes ++ piece) (toks ++ before) at kind
+  pub cause : (bytes : List ℕ) (toks : List Token) → HasRead bytes toks old
+      → HasFault (bytes ++ piece) (toks ++ before) at kind
 
 -- One that has met it answers the same, and no token.
 pub record MetFault (old : ReaderState) (before : List Token) (at : ℕ) (kind : ReadKind) (new : ReaderState) : Type 0 where
@@ -46,7 +48,7 @@ pub record IsUnfinished (reader : ReaderState) (at : ℕ) : Type 0 where
   pub sound : reader.fault ≡ None
   pub place_is : at ≡ reader.place
   pub some : reader.rest ≢ []
-  pub no_token : (tok : Token) → IsTok tok → reader.rest ≡ spelling tok → ⊥
+  pub no_token : (tok : Token) → IsToken tok → reader.rest ≡ spelling tok → ⊥
 
 abbrev pub FinishCause : ReaderState → FinishFault → Type 0
 FinishCause reader (finishing.Bad at kind) = reader.fault ≡ Some (at, kind)
@@ -57,7 +59,7 @@ FinishCause reader finishing.OutOfMemory = Unit {0}
 pub record IsOpenText (reader : ReaderState) (tok : Token) : Type 0 where
   pub sound : reader.fault ≡ None
   pub text : is_text tok ≡ true
-  pub is_tok : IsTok tok
+  pub is_token : IsToken tok
   pub place_is : place_of tok ≡ reader.place
   pub spelled : reader.rest ≡ spelling tok
 

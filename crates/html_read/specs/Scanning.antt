@@ -3,15 +3,15 @@ use Rattle.std.specs.Prelude.{◌≡◌, ◌+◌, ◌≤◌, ℕ, Option, Some, 
 use Rattle.html_read.specs.declared.fault.ReadKind.{ReadKind}
 use Rattle.html_read.specs.declared.machine.Mode.{Mode}
 use Rattle.html_read.specs.declared.machine.Mode.TheVariants.{Text, Name}
-use Rattle.html_read.specs.declared.machine.Turn.{Turn}
-use Rattle.html_read.specs.declared.machine.Turn.TheVariants.{Goes, Ends, Cuts, Fails}
+use Rattle.html_read.specs.declared.machine.Transition.{Transition}
+use Rattle.html_read.specs.declared.machine.Transition.TheVariants.{Goes, Ends, Cuts, Fails}
 use Rattle.html_read.specs.declared.place.Place.TheVariants.{Whole}
 use Rattle.html_read.specs.declared.walk.At.{At}
 use Rattle.html_read.specs.declared.walk.Walked.{Walked}
 use Rattle.html_read.specs.declared.token.Token.{Token}
 use Rattle.html_read.specs.Building.{IsTokenOf}
 use Rattle.html_read.specs.Faults.{Splits, HasFault}
-use Rattle.html_read.specs.Machine.{turn_of, mode_of}
+use Rattle.html_read.specs.Machine.{transition_of, mode_of}
 use Rattle.html_read.specs.Tokens.{spellings}
 
 -- A token is added where the bytes are one.
@@ -19,7 +19,7 @@ abbrev pub AddsToken : List Token → List ℕ → ℕ → List Token → Type 0
 AddsToken old bytes from new = (found : Option Token) × IsTokenOf bytes from found × (new ≡ old ++ option_to_list found)
 
 -- What one byte does, by its turn.
-abbrev pub IsStepBy : Turn → List Token → List ℕ → At → ℕ → ℕ → List Token → Result At ReadKind → Type 0
+abbrev pub IsStepBy : Transition → List Token → List ℕ → At → ℕ → ℕ → List Token → Result At ReadKind → Type 0
 IsStepBy (Goes mode) old bytes at i place new result = (new ≡ old) × (result ≡ Ok (record { from = at.from; mode = mode }))
 IsStepBy Ends old bytes at i place new result =
     AddsToken old (slice_range bytes at.from (i + 1)) (place + at.from) new × (result ≡ Ok (record { from = i + 1; mode = Text Whole }))
@@ -29,7 +29,7 @@ IsStepBy (Fails kind) old bytes at i place new result = (new ≡ old) × (result
 
 abbrev pub IsStep : List Token → List ℕ → At → ℕ → ℕ → List Token → Result At ReadKind → Type 0
 IsStep old bytes at i place new result =
-    IsStepBy (turn_of at.mode (slice_range bytes at.from i) (slice_range bytes at.from (i + 1)) (slice_index bytes i)) old bytes at i place new result
+    IsStepBy (transition_of at.mode (slice_range bytes at.from i) (slice_range bytes at.from (i + 1)) (slice_index bytes i)) old bytes at i place new result
 
 -- What a walk finds, where these tokens were given before its bytes.
 abbrev pub Finds : List Token → List ℕ → ℕ → List Token → ℕ → Option (ℕ × ReadKind) → Type 0

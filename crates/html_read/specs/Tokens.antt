@@ -4,11 +4,10 @@ use Rattle.std.specs.Prelude.{◌≡◌, ◌≢◌, ℕ, ◌+◌, Bool, true, fa
 use Rattle.std.specs.List.{flat_map}
 use Rattle.std.specs.Str.{IsUtf8}
 use Rattle.fizz_text.specs.declared.attribute.Attr.{Attr}
+use Rattle.html_names.specs.Comments.{comment_spelling}
 use Rattle.html_names.specs.Elements.{IsVoidName}
-use Rattle.html_names.specs.Escape.{escaped}
-use Rattle.html_names.specs.Printing.{tag_front, end_tag}
-use Rattle.html_read.specs.declared.token.CommentKind.{CommentKind}
-use Rattle.html_read.specs.declared.token.CommentKind.TheVariants.{Complete, Pending, Client, End as EndOfBoundary, Space}
+use Rattle.html_names.specs.Escape.{escape_of}
+use Rattle.html_names.specs.Printing.{tag_prefix, end_tag}
 use Rattle.html_read.specs.declared.token.Token.{Token}
 use Rattle.html_read.specs.declared.token.Token.TheVariants.{Start, End, Void, Text, Comment, Script}
 use Rattle.html_read.specs.Names.{IsTagName, IsAttributeName}
@@ -25,14 +24,6 @@ abbrev pub AreAttributes : List Attr → Type 0
 AreAttributes [] = Unit {0}
 AreAttributes (a ∷ more) = IsAttribute a × AreAttributes more
 
--- What a comment says: the marks of boundaries, or the space between two texts.
-abbrev pub said : CommentKind → List ℕ
-said Complete = codes "$"
-said Pending = codes "$?"
-said Client = codes "$!"
-said EndOfBoundary = codes "/$"
-said Space = codes " "
-
 -- The end of a script does not stand in its body.
 abbrev pub script_end : List ℕ
 script_end = codes "</script>"
@@ -42,24 +33,24 @@ IsScriptBody body = (before after : List ℕ) → body ≡ before ++ (script_end
 
 -- The bytes of a token.
 abbrev pub spelling : Token → List ℕ
-spelling (Start name attributes from) = tag_front name attributes ++ codes ">"
+spelling (Start name attributes from) = tag_prefix name attributes ++ codes ">"
 spelling (End name from) = end_tag name
-spelling (Void name attributes from) = tag_front name attributes ++ codes "/>"
-spelling (Text text from) = escaped text
-spelling (Comment which from) = codes "<!--" ++ (said which ++ codes "-->")
+spelling (Void name attributes from) = tag_prefix name attributes ++ codes "/>"
+spelling (Text text from) = escape_of text
+spelling (Comment which from) = comment_spelling which
 spelling (Script body from) = codes "<script>" ++ (body ++ script_end)
 
 abbrev pub spellings : List Token → List ℕ
 spellings toks = flat_map spelling toks
 
 -- What may be a token, its place apart.
-abbrev pub IsTok : Token → Type 0
-IsTok (Start name attributes from) = IsTagName name × AreAttributes attributes
-IsTok (End name from) = IsTagName name
-IsTok (Void name attributes from) = IsVoidName name × AreAttributes attributes
-IsTok (Text text from) = (text ≢ []) × IsUtf8 text
-IsTok (Comment which from) = Unit {0}
-IsTok (Script body from) = IsScriptBody body
+abbrev pub IsToken : Token → Type 0
+IsToken (Start name attributes from) = IsTagName name × AreAttributes attributes
+IsToken (End name from) = IsTagName name
+IsToken (Void name attributes from) = IsVoidName name × AreAttributes attributes
+IsToken (Text text from) = (text ≢ []) × IsUtf8 text
+IsToken (Comment which from) = Unit {0}
+IsToken (Script body from) = IsScriptBody body
 
 -- The place of a token's first byte.
 abbrev pub place_of : Token → ℕ
@@ -88,7 +79,7 @@ MayFollow false after = Unit {0}
 abbrev pub AreTokensFrom : ℕ → Bool → List Token → Type 0
 AreTokensFrom place after_text [] = Unit {0}
 AreTokensFrom place after_text (tok ∷ toks) =
-    IsTok tok × (place_of tok ≡ place) × MayFollow after_text (is_text tok) × AreTokensFrom (place + length (spelling tok)) (is_text tok) toks
+    IsToken tok × (place_of tok ≡ place) × MayFollow after_text (is_text tok) × AreTokensFrom (place + length (spelling tok)) (is_text tok) toks
 
 abbrev pub AreTokens : List Token → Type 0
 AreTokens toks = AreTokensFrom 0 false toks

@@ -2,24 +2,26 @@
 
 ghost use Rattle.std.specs.Prelude.{◌≡◌, ◌≢◌, ◌≤◌, ◌<◌, ◌==◌, ℕ, List, [], ◌∷◌, not, length, IfOk, IfSome, Some, None};
 ghost use Rattle.std.specs.Str.{IsUtf8};
-ghost use Rattle.html_read.specs.Names.{continues_attribute_name, IsTagName};
-ghost use Rattle.html_read.specs.Building.{front_len, IsTokenOf, IsTextOf, IsAttributeOf, AreAttributesOf, IsTextTokenOf, IsEndOf, IsCommentKindOf, IsCommentOf, IsScriptOf, IsTagOf};
+ghost use Rattle.fizz_text.specs.Ascii.{quotation_mark, space};
+ghost use Rattle.html_names.specs.Names.{is_name_byte};
+ghost use Rattle.html_read.specs.Names.{IsTagName};
+ghost use Rattle.html_read.specs.Building.{prefix_len, IsTokenOf, IsTextOf, IsAttributeOf, AreAttributesOf, IsTextTokenOf, IsEndOf, IsCommentOf, IsScriptOf, IsTagOf};
 
-use crate::token::{Body, CommentKind, Token};
+use crate::token::{Body, Token};
 use crate::words::after;
 use fizz_text::{Attr, Attributes, OutOfMemory, Text};
-use html_names::{EntityFault, element, unescape};
+use html_names::{EntityFault, comment, element, unescape};
 use std::alloc::Global;
 
 fn continues_name(byte: u8) -> bool
-    ensures { result ≡ continues_attribute_name byte }
+    ensures { result ≡ is_name_byte byte }
 {
     matches!(byte, b'A'..=b'Z' | b'a'..=b'z' | b'0'..=b'9' | b'-')
 }
 
-/// How many bytes at the front may stand in an attribute's name.
+/// How many bytes at the start may stand in an attribute's name.
 fn name_len(bytes: &[u8]) -> usize
-    ensures value { result ≡ front_len continues_attribute_name bytes.now }
+    ensures value { result ≡ prefix_len is_name_byte bytes.now }
     ensures within { result ≤ length bytes.now }
 {
     for (len, byte) in bytes.iter().enumerate() {
@@ -32,7 +34,7 @@ fn name_len(bytes: &[u8]) -> usize
 
 /// How many bytes stand before the first `"`.
 fn value_len(bytes: &[u8]) -> usize
-    ensures value { result ≡ front_len (λ b. not (b == 34)) bytes.now }
+    ensures value { result ≡ prefix_len (λ b. not (b == quotation_mark)) bytes.now }
     ensures within { result ≤ length bytes.now }
 {
     for (len, byte) in bytes.iter().enumerate() {
@@ -74,10 +76,11 @@ fn text_from(alloc: Global, bytes: &[u8]) -> Result<Option<Text>, OutOfMemory>
     Ok(Text::from_bytes(Vec::from_slice(alloc, bytes)?).ok())
 }
 
-/// The attribute at the front, and its length.
+/// The attribute at the start, and its length.
 fn attribute_at(alloc: Global, bytes: &[u8]) -> Result<Option<(Attr, usize)>, OutOfMemory>
     ensures found { IfOk result (IsAttributeOf bytes.now) }
-    ensures none { IfOk result (λ found. (b : ℕ) (bs : List ℕ) → bytes.now ≡ b ∷ bs → b ≢ 32 → found ≡ None) }
+    ensures none { IfOk result (λ found.
+        (b : ℕ) (bs : List ℕ) → bytes.now ≡ b ∷ bs → b ≢ space → found ≡ None) }
     ensures within { IfOk result (λ found. IfSome found (λ a. (0 < a.1) × (a.1 ≤ length bytes.now))) }
 {
     let Some(named) = bytes.strip_prefix(b" ") else {
@@ -106,7 +109,7 @@ fn attribute_at(alloc: Global, bytes: &[u8]) -> Result<Option<(Attr, usize)>, Ou
     }
 }
 
-/// The attributes at the front, and their length.
+/// The attributes at the start, and their length.
 fn attributes_at(alloc: Global, bytes: &[u8]) -> Result<(Attributes, usize), OutOfMemory>
     ensures found { IfOk result (λ r. AreAttributesOf bytes.now r.0 r.1) }
     ensures within { IfOk result (λ r. r.1 ≤ length bytes.now) }
@@ -158,23 +161,10 @@ fn end_of(bytes: &[u8], from: usize) -> Option<Token>
     })
 }
 
-fn said_of(bytes: &[u8]) -> Option<CommentKind>
-    ensures { IsCommentKindOf bytes.now result }
-{
-    match bytes {
-        b"<!--$-->" => Some(CommentKind::Complete),
-        b"<!--$?-->" => Some(CommentKind::Pending),
-        b"<!--$!-->" => Some(CommentKind::Client),
-        b"<!--/$-->" => Some(CommentKind::End),
-        b"<!-- -->" => Some(CommentKind::Space),
-        _ => None,
-    }
-}
-
 fn comment_of(bytes: &[u8], from: usize) -> Option<Token>
     ensures { IsCommentOf bytes.now from result }
 {
-    let which = said_of(bytes)?;
+    let which = comment(bytes)?;
     Some(Token::Comment { which, from })
 }
 

@@ -14,6 +14,7 @@ mod walk;
 mod words;
 
 pub use fault::{FinishFault, ReadFault, ReadKind};
+pub use html_names::CommentKind;
 pub use laws::laws_of_tokens;
 pub use reader::Reader;
-pub use token::{Body, CommentKind, Token};
+pub use token::{Body, Token};

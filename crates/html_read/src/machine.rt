@@ -1,8 +1,8 @@
 //! One step of the reader: a byte, and where the reader stands after it.
 
 ghost use Rattle.std.specs.Prelude.{◌≡◌, ◌<◌, ◌++◌, ◌∷◌, [], drop, length};
-ghost use Rattle.html_read.specs.Machine.{text_turn, value_turn, close_turn, flag_turn, after_name, name_turn, end_name_turn, comment_turn, script_turn, space_turn, attribute_turn, equals_turn, slash_turn, turn_of, is_whole_text};
-ghost use Rattle.html_read.specs.Names.{is_letter, is_digit, continues_attribute_name};
+ghost use Rattle.html_read.specs.Machine.{text_transition, value_transition, close_transition, flag_transition, after_name, name_transition, end_name_transition, comment_transition, script_transition, space_transition, attribute_transition, equals_transition, slash_transition, transition_of, is_whole_text};
+ghost use Rattle.html_names.specs.Names.{is_letter, is_digit, is_name_byte};
 
 use crate::fault::ReadKind;
 use crate::place::{Place, RunFault, place_after};
@@ -46,7 +46,7 @@ impl Mode {
 
 /// What a byte does.
 #[derive(Clone, Copy, Debug, PartialEq, Eq, Drop)]
-pub enum Turn {
+pub enum Transition {
     /// It goes on with the token.
     Goes(Mode),
     /// It ends the token.
@@ -69,178 +69,178 @@ fn is_digit(byte: u8) -> bool
     matches!(byte, b'0'..=b'9')
 }
 
-fn continues_attribute_name(byte: u8) -> bool
-    ensures { result ≡ continues_attribute_name byte }
+fn is_name_byte(byte: u8) -> bool
+    ensures { result ≡ is_name_byte byte }
 {
     is_letter(byte) || is_digit(byte) || byte == b'-'
 }
 
-fn text_turn(len: usize, byte: u8, place: Result<Place, RunFault>) -> Turn
-    ensures { result ≡ text_turn len byte place }
+fn text_transition(len: usize, byte: u8, place: Result<Place, RunFault>) -> Transition
+    ensures { result ≡ text_transition len byte place }
 {
     match place {
-        Ok(place) => Turn::Goes(Mode::Text(place)),
-        Err(RunFault::Byte) if byte != b'<' => Turn::Fails(ReadKind::Text),
-        Err(RunFault::Byte) if len == 1 => Turn::Goes(Mode::Name),
-        Err(RunFault::Byte) => Turn::Cuts,
-        Err(RunFault::Entity) => Turn::Fails(ReadKind::Entity),
-        Err(RunFault::Utf8) => Turn::Fails(ReadKind::Utf8),
+        Ok(place) => Transition::Goes(Mode::Text(place)),
+        Err(RunFault::Byte) if byte != b'<' => Transition::Fails(ReadKind::Text),
+        Err(RunFault::Byte) if len == 1 => Transition::Goes(Mode::Name),
+        Err(RunFault::Byte) => Transition::Cuts,
+        Err(RunFault::Entity) => Transition::Fails(ReadKind::Entity),
+        Err(RunFault::Utf8) => Transition::Fails(ReadKind::Utf8),
     }
 }
 
-fn value_turn(is_void: bool, byte: u8, place: Result<Place, RunFault>) -> Turn
-    ensures { result ≡ value_turn is_void byte place }
+fn value_transition(is_void: bool, byte: u8, place: Result<Place, RunFault>) -> Transition
+    ensures { result ≡ value_transition is_void byte place }
 {
     match place {
-        Ok(place) => Turn::Goes(Mode::Value { is_void, place }),
-        Err(RunFault::Byte) if byte == b'"' => Turn::Goes(Mode::Close { is_void }),
-        Err(RunFault::Byte) => Turn::Fails(ReadKind::Attribute),
-        Err(RunFault::Entity) => Turn::Fails(ReadKind::Entity),
-        Err(RunFault::Utf8) => Turn::Fails(ReadKind::Utf8),
+        Ok(place) => Transition::Goes(Mode::Value { is_void, place }),
+        Err(RunFault::Byte) if byte == b'"' => Transition::Goes(Mode::Close { is_void }),
+        Err(RunFault::Byte) => Transition::Fails(ReadKind::Attribute),
+        Err(RunFault::Entity) => Transition::Fails(ReadKind::Entity),
+        Err(RunFault::Utf8) => Transition::Fails(ReadKind::Utf8),
     }
 }
 
 /// After a whole name, or after an attribute.
-fn close_turn(is_void: bool, byte: u8) -> Turn
-    ensures { result ≡ close_turn is_void byte }
+fn close_transition(is_void: bool, byte: u8) -> Transition
+    ensures { result ≡ close_transition is_void byte }
 {
     match byte {
-        b' ' => Turn::Goes(Mode::Space { is_void }),
-        b'>' => Turn::Ends,
-        b'/' if is_void => Turn::Goes(Mode::Slash),
-        _ => Turn::Fails(ReadKind::Attribute),
+        b' ' => Transition::Goes(Mode::Space { is_void }),
+        b'>' => Transition::Ends,
+        b'/' if is_void => Transition::Goes(Mode::Slash),
+        _ => Transition::Fails(ReadKind::Attribute),
     }
 }
 
-fn flag_turn(flag: Option<bool>, byte: u8) -> Turn
-    ensures { result ≡ flag_turn flag byte }
+fn flag_transition(flag: Option<bool>, byte: u8) -> Transition
+    ensures { result ≡ flag_transition flag byte }
 {
     match flag {
-        Some(is_void) if !is_letter(byte) && !is_digit(byte) => close_turn(is_void, byte),
-        _ => Turn::Fails(ReadKind::Name),
+        Some(is_void) if !is_letter(byte) && !is_digit(byte) => close_transition(is_void, byte),
+        _ => Transition::Fails(ReadKind::Name),
     }
 }
 
-fn after_name(name: &[u8], byte: u8) -> Turn
+fn after_name(name: &[u8], byte: u8) -> Transition
     ensures { result ≡ after_name name.now byte }
 {
     if name.is_empty() {
         match byte {
-            b'/' => Turn::Goes(Mode::EndName),
-            b'!' => Turn::Goes(Mode::Comment),
-            _ => Turn::Fails(ReadKind::Name),
+            b'/' => Transition::Goes(Mode::EndName),
+            b'!' => Transition::Goes(Mode::Comment),
+            _ => Transition::Fails(ReadKind::Name),
         }
     } else if name == b"script".as_slice() {
         match byte {
-            b'>' => Turn::Goes(Mode::Script),
-            _ => Turn::Fails(ReadKind::Name),
+            b'>' => Transition::Goes(Mode::Script),
+            _ => Transition::Fails(ReadKind::Name),
         }
     } else {
-        flag_turn(tag_flag(name), byte)
+        flag_transition(tag_flag(name), byte)
     }
 }
 
-fn name_turn(name: &[u8], token: &[u8], byte: u8) -> Turn
-    ensures { result ≡ name_turn name.now token.now byte }
+fn name_transition(name: &[u8], token: &[u8], byte: u8) -> Transition
+    ensures { result ≡ name_transition name.now token.now byte }
 {
     if begins_start(token) {
-        Turn::Goes(Mode::Name)
+        Transition::Goes(Mode::Name)
     } else {
         after_name(name, byte)
     }
 }
 
-fn end_name_turn(name: &[u8], token: &[u8], byte: u8) -> Turn
-    ensures { result ≡ end_name_turn name.now token.now byte }
+fn end_name_transition(name: &[u8], token: &[u8], byte: u8) -> Transition
+    ensures { result ≡ end_name_transition name.now token.now byte }
 {
     if begins_tag_name(token) {
-        Turn::Goes(Mode::EndName)
+        Transition::Goes(Mode::EndName)
     } else if byte == b'>' && tag_flag(name).is_some() {
-        Turn::Ends
+        Transition::Ends
     } else {
-        Turn::Fails(ReadKind::Name)
+        Transition::Fails(ReadKind::Name)
     }
 }
 
-fn comment_turn(token: &[u8]) -> Turn
-    ensures { result ≡ comment_turn token.now }
+fn comment_transition(token: &[u8]) -> Transition
+    ensures { result ≡ comment_transition token.now }
 {
     if is_comment(token) {
-        Turn::Ends
+        Transition::Ends
     } else if begins_comment(token) {
-        Turn::Goes(Mode::Comment)
+        Transition::Goes(Mode::Comment)
     } else {
-        Turn::Fails(ReadKind::Comment)
+        Transition::Fails(ReadKind::Comment)
     }
 }
 
-fn script_turn(token: &[u8]) -> Turn
-    ensures { result ≡ script_turn token.now }
+fn script_transition(token: &[u8]) -> Transition
+    ensures { result ≡ script_transition token.now }
 {
     if token.ends_with(b"</script>") {
-        Turn::Ends
+        Transition::Ends
     } else {
-        Turn::Goes(Mode::Script)
+        Transition::Goes(Mode::Script)
     }
 }
 
-fn space_turn(is_void: bool, len: usize, byte: u8) -> Turn
+fn space_transition(is_void: bool, len: usize, byte: u8) -> Transition
     requires { 0 < len }
-    ensures { result ≡ space_turn is_void len byte }
+    ensures { result ≡ space_transition is_void len byte }
 {
     if is_letter(byte) {
-        Turn::Goes(Mode::Attribute {
+        Transition::Goes(Mode::Attribute {
             is_void,
             start: len - 1,
         })
     } else {
-        Turn::Fails(ReadKind::Attribute)
+        Transition::Fails(ReadKind::Attribute)
     }
 }
 
-fn attribute_turn(is_void: bool, start: usize, name: &[u8], byte: u8) -> Turn
-    ensures { result ≡ attribute_turn is_void start name.now byte }
+fn attribute_transition(is_void: bool, start: usize, name: &[u8], byte: u8) -> Transition
+    ensures { result ≡ attribute_transition is_void start name.now byte }
 {
-    if continues_attribute_name(byte) {
-        Turn::Goes(Mode::Attribute { is_void, start })
+    if is_name_byte(byte) {
+        Transition::Goes(Mode::Attribute { is_void, start })
     } else if byte == b'=' {
-        Turn::Goes(Mode::Equals { is_void })
+        Transition::Goes(Mode::Equals { is_void })
     } else if name == b"hidden".as_slice() {
-        close_turn(is_void, byte)
+        close_transition(is_void, byte)
     } else {
-        Turn::Fails(ReadKind::Attribute)
+        Transition::Fails(ReadKind::Attribute)
     }
 }
 
 /// The byte is the token's last so far, and `seen` is the token before it.
-pub fn turn_of(mode: Mode, seen: &[u8], token: &[u8], byte: u8) -> Turn
+pub fn transition_of(mode: Mode, seen: &[u8], token: &[u8], byte: u8) -> Transition
     requires { 0 < length token.now }
-    ensures { result ≡ turn_of mode seen.now token.now byte }
+    ensures { result ≡ transition_of mode seen.now token.now byte }
 {
     match mode {
-        Mode::Text(place) => text_turn(token.len(), byte, place_after(place, token, byte)),
-        Mode::Name => name_turn(after(seen, 1), after(token, 1), byte),
-        Mode::EndName => end_name_turn(after(seen, 2), after(token, 2), byte),
-        Mode::Comment => comment_turn(after(token, 2)),
-        Mode::Script => script_turn(after(token, 8)),
-        Mode::Space { is_void } => space_turn(is_void, token.len(), byte),
-        Mode::Attribute { is_void, start } => attribute_turn(
+        Mode::Text(place) => text_transition(token.len(), byte, place_after(place, token, byte)),
+        Mode::Name => name_transition(after(seen, 1), after(token, 1), byte),
+        Mode::EndName => end_name_transition(after(seen, 2), after(token, 2), byte),
+        Mode::Comment => comment_transition(after(token, 2)),
+        Mode::Script => script_transition(after(token, 8)),
+        Mode::Space { is_void } => space_transition(is_void, token.len(), byte),
+        Mode::Attribute { is_void, start } => attribute_transition(
             is_void,
             start,
             after(seen, start),
             byte,
         ),
-        Mode::Equals { is_void } if byte == b'"' => Turn::Goes(Mode::Value {
+        Mode::Equals { is_void } if byte == b'"' => Transition::Goes(Mode::Value {
             is_void,
             place: Place::Whole,
         }),
-        Mode::Value { is_void, place } => value_turn(
+        Mode::Value { is_void, place } => value_transition(
             is_void,
             byte,
             place_after(place, token, byte),
         ),
-        Mode::Close { is_void } => close_turn(is_void, byte),
-        Mode::Slash if byte == b'>' => Turn::Ends,
-        Mode::Equals { is_void: _ } | Mode::Slash => Turn::Fails(ReadKind::Attribute),
+        Mode::Close { is_void } => close_transition(is_void, byte),
+        Mode::Slash if byte == b'>' => Transition::Ends,
+        Mode::Equals { is_void: _ } | Mode::Slash => Transition::Fails(ReadKind::Attribute),
     }
 }

@@ -60,15 +60,18 @@ impl Reader {
     /// Takes the next piece, and gives the tokens that end in it. A text ends at the `<` after it.
     ///
     /// Refused with `Bad` exactly where the bytes so far can't become a page; from then on each call answers the
-    /// same place and kind. Want of memory leaves the reader as it was.
+    /// same place and kind. `OutOfMemory` leaves the reader as it was.
     pub fn feed(&mut self, piece: &[u8]) -> Result<Vec<Token>, ReadFault>
         requires { self.old.place + (length self.old.rest + length piece.now) < 2 ^ 63 }
-        ensures taken { IfOk result (λ new. (bytes : List ℕ) (toks : List Token) → HasRead bytes toks self.old
+        ensures taken { IfOk result (λ new. (bytes : List ℕ) (toks : List Token)
+            → HasRead bytes toks self.old
             → HasRead (bytes ++ piece.now) (toks ++ new.items) self.new) }
         ensures refused { IfErr result (FeedCause self.old piece.now self.new) }
         ensures counted { self.new.place + length self.new.rest
-            ≡ self.old.place + (length self.old.rest + (if is_ok result then length piece.now else 0)) }
-        ensures again { (at : ℕ) (kind : Kind) → self.old.fault ≡ Some (at, kind) → IsErrAnd result (IsAgain at kind) }
+            ≡ self.old.place
+            + (length self.old.rest + (if is_ok result then length piece.now else 0)) }
+        ensures again { (at : ℕ) (kind : Kind) → self.old.fault ≡ Some (at, kind)
+            → IsErrAnd result (IsAgain at kind) }
     {
         if let Some((at, kind)) = self.fault {
             let before = Vec::new(self.alloc);
@@ -105,10 +108,12 @@ impl Reader {
     /// Ends the stream, and gives the text that is open.
     pub fn finish(self) -> Result<Option<Token>, FinishFault>
         ensures last { IfOk result (IsLast self) }
-        ensures whole { IfOk result (λ last. (bytes : List ℕ) (toks : List Token) → HasRead bytes toks self
+        ensures whole { IfOk result (λ last. (bytes : List ℕ) (toks : List Token)
+            → HasRead bytes toks self
             → Tokenizes bytes (toks ++ option_to_list last)) }
         ensures refused { IfErr result (FinishCause self) }
-        ensures again { (at : ℕ) (kind : Kind) → self.fault ≡ Some (at, kind) → result ≡ Err (FinishBad at kind) }
+        ensures again { (at : ℕ) (kind : Kind) → self.fault ≡ Some (at, kind)
+            → result ≡ Err (FinishBad at kind) }
     {
         if let Some((at, kind)) = self.fault {
             return Err(FinishFault::Bad { at, kind });

@@ -3,17 +3,8 @@
 ghost use Rattle.std.specs.Prelude.{◌≡◌};
 
 use fizz_text::{Attributes, Text};
+use html_names::CommentKind;
 use std::marker::Model;
-
-/// What a comment says: `$`, `$?`, `$!` and `/$` mark the boundaries of a page, a space stands between two texts.
-#[derive(Clone, Copy, Debug, PartialEq, Eq, Drop)]
-pub enum CommentKind {
-    Complete,
-    Pending,
-    Client,
-    End,
-    Space,
-}
 
 /// A token. `from` is the place of its first byte in the stream, texts and values are unescaped.
 #[derive(Debug, Drop)]
@@ -40,7 +31,7 @@ pub enum Token {
         text: Text,
         from: usize,
     },
-    /// `<!--`, what is said, `-->`
+    /// `<!--`, the data of this kind, `-->`
     Comment {
         which: CommentKind,
         from: usize,

@@ -5,7 +5,7 @@ ghost use Rattle.html_read.specs.Scanning.{IsStep, IsWalked, AddsToken};
 
 use crate::building::token_of;
 use crate::fault::ReadKind;
-use crate::machine::{Mode, Turn, turn_of};
+use crate::machine::{Mode, Transition, transition_of};
 use crate::place::Place;
 use crate::token::Token;
 use fizz_text::OutOfMemory;
@@ -42,26 +42,26 @@ fn step(
     ensures { IfOk result (IsStep tokens.old.items bytes.now at i place tokens.new.items) }
 {
     let token = &bytes[at.from..i + 1];
-    match turn_of(at.mode, &bytes[at.from..i], token, bytes[i]) {
-        Turn::Goes(mode) => Ok(Ok(At {
+    match transition_of(at.mode, &bytes[at.from..i], token, bytes[i]) {
+        Transition::Goes(mode) => Ok(Ok(At {
             from: at.from,
             mode,
         })),
-        Turn::Ends => {
+        Transition::Ends => {
             add_token(alloc, tokens, token, place + at.from)?;
             Ok(Ok(At {
                 from: i + 1,
                 mode: Mode::Text(Place::Whole),
             }))
         }
-        Turn::Cuts => {
+        Transition::Cuts => {
             add_token(alloc, tokens, &bytes[at.from..i], place + at.from)?;
             Ok(Ok(At {
                 from: i,
                 mode: Mode::Name,
             }))
         }
-        Turn::Fails(kind) => Ok(Err(kind)),
+        Transition::Fails(kind) => Ok(Err(kind)),
     }
 }
 

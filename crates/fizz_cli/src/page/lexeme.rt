@@ -4,8 +4,8 @@ ghost use Rattle.std.specs.Prelude.{◌≡◌, ◌≤◌, ◌↔◌, ◌++◌, [
 ghost use Rattle.std.specs.List.{list_any};
 ghost use Rattle.std.specs.Str.{bytes_eq};
 ghost use Rattle.html_names.specs.Attributes.{attribute_of};
-ghost use Rattle.html_names.specs.Escape.{escaped};
-ghost use Rattle.html_names.specs.Printing.{end_tag, tag_front, written_attribute, written_attributes};
+ghost use Rattle.html_names.specs.Escape.{escape_of};
+ghost use Rattle.html_names.specs.Printing.{end_tag, tag_prefix, attribute_spelling, attributes_spelling};
 ghost use Rattle.document_machine.specs.Printing.{element_bytes};
 ghost use Rattle.fizz_cli.specs.Source.{attr_of, name_of, IsPlain};
 ghost use Rattle.fizz_cli.specs.Lexemes.{IsNext, lexeme_html};
@@ -187,7 +187,7 @@ fn push_whole(out: &mut Vec<u8>, tag: &Tag<'_>) -> Result<(), OutOfMemory>
 
 /// Appends `<`, the name and the attributes.
 fn push_tag_front(out: &mut Vec<u8>, tag: &Tag<'_>) -> Result<(), OutOfMemory>
-    ensures { OnOk result (out.new.items ≡ out.old.items ++ tag_front tag.now.name.now (map attr_of (writtens_of tag.now.attributes.items))) }
+    ensures { OnOk result (out.new.items ≡ out.old.items ++ tag_prefix tag.now.name.now (map attr_of (writtens_of tag.now.attributes.items))) }
 {
     push_all(out, b"<")?;
     push_all(out, tag.name)?;
@@ -198,7 +198,7 @@ fn push_attributes(
     out: &mut Vec<u8>,
     attributes: &[WrittenAttribute<'_>],
 ) -> Result<(), OutOfMemory>
-    ensures { OnOk result (out.new.items ≡ out.old.items ++ written_attributes (map attr_of (writtens_of attributes.now))) }
+    ensures { OnOk result (out.new.items ≡ out.old.items ++ attributes_spelling (map attr_of (writtens_of attributes.now))) }
 {
     for attribute in attributes {
         push_attribute(out, attribute)?;
@@ -207,7 +207,7 @@ fn push_attributes(
 }
 
 fn push_attribute(out: &mut Vec<u8>, attribute: &WrittenAttribute<'_>) -> Result<(), OutOfMemory>
-    ensures { OnOk result (out.new.items ≡ out.old.items ++ written_attribute (attr_of (written_of attribute.now))) }
+    ensures { OnOk result (out.new.items ≡ out.old.items ++ attribute_spelling (attr_of (written_of attribute.now))) }
 {
     push_all(out, b" ")?;
     push_all(out, printed_name(attribute.name))?;
@@ -239,7 +239,7 @@ fn push_end_tag(out: &mut Vec<u8>, name: &[u8]) -> Result<(), OutOfMemory>
 
 /// Appends the escaped text.
 fn push_text(out: &mut Vec<u8>, text: &[u8]) -> Result<(), OutOfMemory>
-    ensures { OnOk result (out.new.items ≡ out.old.items ++ escaped text.now) }
+    ensures { OnOk result (out.new.items ≡ out.old.items ++ escape_of text.now) }
 {
     match push_escaped(out, text) {
         Ok(()) => Ok(()),

@@ -1,7 +1,7 @@
 use Rattle.std.proofs.Common.{◌≡◌, false, true, ◌∙◌, sym, subst}
 use Rattle.std.specs.Str.{IsUtf8}
 use Rattle.std.proofs.lemmas.Str.{IsUtf8-append}
-use Rattle.fizz_instructions.proofs.Numerals.{numeral_utf8}
+use Rattle.fizz_instructions.proofs.HexadecimalLemmas.{numeral_utf8}
 use Rattle.document_machine.proofs.edits.id_text.Goals as goal
 
 pub unreachable-requires : goal.unreachable-requires

@@ -8,7 +8,7 @@ returns c =
     let tokens : TokenLaws = record {
       one = c.laws_of_tokens.ensures.one;
       alive = c.laws_of_tokens.ensures.alive;
-      front = c.laws_of_tokens.ensures.front;
+      front = c.laws_of_tokens.ensures.first_tokens;
       split = c.laws_of_tokens.ensures.split;
     } in
     let scripts : ScriptLaws = record { one = c.laws_of_instructions.ensures.one; no_end = c.laws_of_instructions.ensures.no_end } in

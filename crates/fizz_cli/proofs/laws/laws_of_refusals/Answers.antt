@@ -1,22 +1,22 @@
-use Rattle.std.proofs.Common.{List, ℕ}
-use Rattle.std.specs.Str.{IsUtf8}
-use Rattle.fizz_cli.proofs.OneRefusal.{FaultLaws, one_page_refusal, one_pair}
-use Rattle.fizz_cli.proofs.Pages.{MachineLaws, shown_sound}
+use Rattle.std.proofs.Common.{ℕ, List, sym, subst}
+use Rattle.fizz_cli.specs.PageFiles.{RefusesPage, ShowsFile}
+use Rattle.fizz_cli.proofs.RefusalsLemmas.{one_render, render_excludes}
 use Rattle.fizz_cli.proofs.laws.laws_of_refusals.Goals as goal
 
-pub returns : goal.returns
-returns c =
-    let laws : (prefix : List ℕ) → IsUtf8 prefix → MachineLaws prefix = λ prefix utf8. record {
-      one = λ a b bytes r s. c.laws_of_documents.ensures.one prefix _ a b bytes utf8 r s;
-      sound = λ end bytes r met f. c.laws_of_documents.ensures.sound prefix _ end bytes utf8 r met f;
-      whole = λ end bytes at r e. c.laws_of_documents.ensures.whole prefix _ end bytes at utf8 r e;
-    } in
-    let ones : (prefix : List ℕ) → IsUtf8 prefix → FaultLaws prefix = λ prefix utf8. record {
-      one_fault = λ bytes f g p q. c.laws_of_documents.ensures.one_fault prefix _ bytes f g utf8 p q;
-      one_end = λ bytes m n p q. c.laws_of_documents.ensures.one_end prefix _ bytes m n p q;
-    } in
-    record {
-      render = one_pair;
-      show = λ prefix file a b utf8 p q. one_page_refusal prefix (laws prefix utf8) (ones prefix utf8) file a b p q;
-      shown = λ prefix bytes out refusal utf8 s r. shown_sound prefix (laws prefix utf8) bytes out refusal s r;
-    }
+pub returns-in-Render-clause-accepted : goal.returns-in-Render-clause-accepted
+returns-in-Render-clause-accepted c = rw c.in-Render.is (λ at refusal a r. render_excludes at c.in-Render.app c.in-Render.script a.0 refusal a.1 r)
+
+pub returns-in-Render-clause-one : goal.returns-in-Render-clause-one
+returns-in-Render-clause-one c = rw c.in-Render.is (λ at a b p q. one_render at c.in-Render.app c.in-Render.script a b p q)
+
+pub returns-in-Show-clause-accepted : goal.returns-in-Show-clause-accepted
+returns-in-Show-clause-accepted c = rw c.in-Show.is (λ at refusal a r.
+    c.laws_of_pages.ensures.accepted c.in-Show.file (at c.in-Show.file) a.0 refusal
+    (subst (λ (p : List ℕ). ShowsFile p (at c.in-Show.file) a.0) (sym c.as_str.ensures.value) a.1)
+    (subst (λ (p : List ℕ). RefusesPage p ⊥ c.in-Show.file (at c.in-Show.file) refusal) (sym c.as_str.ensures.value) r))
+
+pub returns-in-Show-clause-one : goal.returns-in-Show-clause-one
+returns-in-Show-clause-one c = rw c.in-Show.is (λ at a b p q.
+    c.laws_of_pages.ensures.one c.in-Show.file (at c.in-Show.file) a b
+    (subst (λ (x : List ℕ). RefusesPage x ⊥ c.in-Show.file (at c.in-Show.file) a) (sym c.as_str.ensures.value) p)
+    (subst (λ (x : List ℕ). RefusesPage x ⊥ c.in-Show.file (at c.in-Show.file) b) (sym c.as_str.ensures.value) q))

@@ -1,5 +1,5 @@
-use Rattle.fizz_instructions.proofs.Calls.{one_body, reads_back}
-use Rattle.fizz_instructions.proofs.Marks.{body_no_end, body_no_mark, script_utf8}
+use Rattle.fizz_instructions.proofs.BodiesLemmas.{one_body, reads_back}
+use Rattle.fizz_instructions.proofs.BodyMarkLemmas.{body_no_end, body_no_mark, script_utf8}
 use Rattle.fizz_instructions.proofs.laws.laws_of_instructions.Goals as goal
 
 pub returns : goal.returns

@@ -1,11 +1,11 @@
 use Rattle.std.proofs.Common.{◌∙◌, sym, subst}
 use Rattle.std.specs.Str.{IsUtf8}
 use Rattle.std.proofs.lemmas.Str.{IsUtf8-append}
-use Rattle.fizz_instructions.proofs.Numerals.{numeral_utf8}
+use Rattle.fizz_instructions.proofs.HexadecimalLemmas.{numeral_utf8}
 use Rattle.fizz_instructions.proofs.printing.push_id.Goals as goal
 
-pub push_string-requires : goal.push_string-requires
-push_string-requires c =
+pub push_js_string-requires : goal.push_js_string-requires
+push_js_string-requires c =
     let front = subst IsUtf8 (sym c.in_ok-id.ensures.items) c.as_bytes.ensures.utf8 in
     let marked = subst IsUtf8 (sym c.in_ok-extend_from_slice.ensures.items) (IsUtf8-append _ _ front c.as_bytes-2.ensures.utf8) in
     let digits = subst IsUtf8 (sym (c.as_bytes-3.ensures.value ∙ c.hex_of.ensures.value)) (numeral_utf8 c.args.number) in

@@ -1,7 +1,7 @@
 use Rattle.std.proofs.Common.{◌∙◌, sym, ap, subst}
 use Rattle.std.specs.Result.{result_ok}
 use Rattle.std.specs.Str.{IsUtf8}
-use Rattle.fizz_instructions.proofs.Numerals.{numeral_utf8, reads_numeral}
+use Rattle.fizz_instructions.proofs.HexadecimalLemmas.{numeral_utf8, reads_numeral}
 use Rattle.fizz_instructions.proofs.reading.digits_number.Goals as goal
 
 pub returns-in_default : goal.returns-in_default

@@ -1,7 +1,8 @@
+use Rattle.std.proofs.lemmas.List.{append_cancel_left}
 use Rattle.std.proofs.Common.{◌++◌, ◌∙◌, sym}
 use Rattle.fizz_text.specs.Hexadecimal.{hexadecimal}
-use Rattle.fizz_instructions.proofs.Ids.{number_found}
-use Rattle.fizz_instructions.proofs.Lists.{no_prefix, prefix_first, same_after}
+use Rattle.fizz_instructions.proofs.IdsLemmas.{number_found}
+use Rattle.fizz_instructions.proofs.ListLemmas.{no_prefix, prefix_first}
 use Rattle.fizz_instructions.proofs.reading.id_number.Goals as goal
 
 pub returns-in_default : goal.returns-in_default
@@ -10,7 +11,7 @@ returns-in_default c = λ n small e. no_prefix c.args.id.now c.args.prefix.now c
 pub returns-in_default-strip_prefix : goal.returns-in_default-strip_prefix
 returns-in_default-strip_prefix c = λ n small e.
     no_prefix c.in-Some.rest.now c.args.mark.now c.in_default-strip_prefix.ensures.cases (hexadecimal n)
-    (same_after c.args.prefix.now c.in-Some.rest.now (c.args.mark.now ++ hexadecimal n)
+    (append_cancel_left c.args.prefix.now c.in-Some.rest.now (c.args.mark.now ++ hexadecimal n)
     (sym (prefix_first c.args.id.now c.args.prefix.now c.in-Some.rest.now c.in-Some.ensures.cases.0 c.in-Some.ensures.cases.1) ∙ e))
 
 pub returns : goal.returns

@@ -1,4 +1,4 @@
-use Rattle.fizz_instructions.proofs.Calls.{no_name, no_body}
+use Rattle.fizz_instructions.proofs.BodiesLemmas.{no_name, no_body}
 use Rattle.fizz_instructions.proofs.reading.read_body.Goals as goal
 
 pub returns-in_default : goal.returns-in_default

@@ -1,4 +1,4 @@
-use Rattle.fizz_instructions.proofs.Arguments.{no_digest}
+use Rattle.fizz_instructions.proofs.ArgumentsLemmas.{no_digest}
 use Rattle.fizz_instructions.proofs.reading.read_client_render.Goals as goal
 
 pub returns-in-None : goal.returns-in-None

@@ -1,8 +1,8 @@
 use Rattle.std.proofs.Common.{◌≡◌, [], ◌∷◌, length, sym, ◌∙◌, arith}
 use Rattle.std.proofs.lemmas.Bool.{eqb-true}
 use Rattle.std.proofs.lemmas.List.{nil_from_length}
-use Rattle.fizz_instructions.proofs.Arguments.{no_digest_string, no_empty_digest, no_longer_digest}
-use Rattle.fizz_instructions.proofs.Lists.{prefix_first}
+use Rattle.fizz_instructions.proofs.ArgumentsLemmas.{no_digest_string, no_empty_digest, no_longer_digest}
+use Rattle.fizz_instructions.proofs.ListLemmas.{prefix_first}
 use Rattle.fizz_instructions.proofs.reading.read_digest.Goals as goal
 
 pub returns-in_default-2 : goal.returns-in_default-2

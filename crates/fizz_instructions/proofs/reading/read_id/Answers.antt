@@ -1,6 +1,6 @@
 use Rattle.std.proofs.Common.{List, ℕ, ◌∙◌, sym, ap}
 use Rattle.fizz_instructions.specs.Bodies.{id_of}
-use Rattle.fizz_instructions.proofs.Ids.{no_string_no_id, other_string_no_id}
+use Rattle.fizz_instructions.proofs.IdsLemmas.{no_string_no_id, other_string_no_id}
 use Rattle.fizz_instructions.proofs.reading.read_id.Goals as goal
 
 pub returns-in_default : goal.returns-in_default

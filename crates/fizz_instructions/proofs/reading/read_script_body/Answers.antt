@@ -2,7 +2,7 @@ use Rattle.std.proofs.Common.{List, ℕ, Bool, subst, sym, ◌∙◌, ap}
 use Rattle.std.specs.Str.{IsUtf8}
 use Rattle.fizz_instructions.specs.Reading.{IsBodyOf}
 use Rattle.fizz_instructions.specs.Sending.{has}
-use Rattle.fizz_instructions.proofs.Calls.{not_said, only_said}
+use Rattle.fizz_instructions.proofs.BodiesLemmas.{not_said, only_said}
 use Rattle.fizz_instructions.proofs.reading.read_script_body.Goals as goal
 
 pub returns-then-not-has-clause-accepted : goal.returns-then-not-has-clause-accepted

@@ -1,4 +1,4 @@
-use Rattle.fizz_instructions.proofs.Arguments.{two_numbers}
+use Rattle.fizz_instructions.proofs.ArgumentsLemmas.{two_numbers}
 use Rattle.fizz_instructions.proofs.reading.read_segment.Goals as goal
 
 pub returns-else-segment-placeholder : goal.returns-else-segment-placeholder

@@ -1,6 +1,6 @@
 use Rattle.std.proofs.Common.{[], ◌∷◌}
-use Rattle.fizz_instructions.proofs.Ids.{more_left, no_comma, no_second}
-use Rattle.fizz_instructions.proofs.Lists.{no_prefix, not_empty, prefix_first}
+use Rattle.fizz_instructions.proofs.IdsLemmas.{more_left, no_comma, no_second}
+use Rattle.fizz_instructions.proofs.ListLemmas.{no_prefix, not_empty, prefix_first}
 use Rattle.fizz_instructions.proofs.reading.read_two_ids.Goals as goal
 
 pub returns-in_default-strip_prefix : goal.returns-in_default-strip_prefix

@@ -1,8 +1,8 @@
 use Rattle.std.proofs.Common.{◌∙◌, ◌++◌, ◌∷◌, [], List, ℕ, nat_eq, ap}
 use Rattle.std.proofs.lemmas.Slice.Eq.{strip_suffix_is}
 use Rattle.std.proofs.lemmas.Bool.Decides.{Decides-eqb}
-use Rattle.fizz_instructions.proofs.Calls.{inner}
-use Rattle.fizz_instructions.proofs.Lists.{prefix_first}
+use Rattle.fizz_instructions.proofs.BodiesLemmas.{inner}
+use Rattle.fizz_instructions.proofs.ListLemmas.{prefix_first}
 use Rattle.fizz_instructions.proofs.reading.split_call.Goals as goal
 
 pub returns : goal.returns

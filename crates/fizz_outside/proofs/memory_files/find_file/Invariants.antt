@@ -1,6 +1,6 @@
 use Rattle.std.proofs.Common.{◌≡◌, drop}
 use Rattle.fizz_outside.specs.Memory.{file_at}
-use Rattle.fizz_outside.specs.MemoryEntries.{entries_of}
+use Rattle.fizz_outside.specs.Memory.{entries_of}
 use Rattle.fizz_outside.proofs.memory_files.find_file.Given as goal
 
 -- the file is the one that stands in what is left

@@ -1,7 +1,7 @@
 use Rattle.std.proofs.Common.{rules, refl, arith, ◌≡◌, length, ◌+◌, ◌/◌, append-nil, lit≤}
 use Rattle.std.proofs.lemmas.Int.Digits.{length-digits_of_step, length-digits_of-le}
 use Rattle.std.specs.Int.Digits.{digits_of}
-use Rattle.fizz_text.proofs.HexadecimalLemmas.{one_more, numeral_of}
+use Rattle.fizz_text.proofs.HexadecimalLemmas.{map-digit_char-digits_of-step, IsHexadecimal-map-digit_char}
 use Rattle.fizz_text.proofs.hexadecimal.hex_of.Goals as goal
 
 pub loop-rest-init : goal.loop-rest-init
@@ -23,10 +23,10 @@ loop-rest-preserved c =
       size = search rules;
       room = omega arith;
       within = omega arith;
-      written = one_more c.loop-rest.rest c.loop-rest.start _ c.loop-rest.digits _ c.loop-rest-test.true (omega arith) (omega arith) c.digit_of.ensures c.loop-rest.invariant.written;
+      written = map-digit_char-digits_of-step c.loop-rest.rest c.loop-rest.start _ c.loop-rest.digits _ c.loop-rest-test.true (omega arith) (omega arith) c.digit_of.ensures c.loop-rest.invariant.written;
     }
 
 pub returns-clause-numeral : goal.returns-clause-numeral
 returns-clause-numeral c =
     let zero : c.loop-rest.rest ≡ 0 = omega arith in
-    numeral_of _ _ c.if-n-eq0.false (rw zero at c.loop-rest.invariant.written)
+    IsHexadecimal-map-digit_char _ _ c.if-n-eq0.false (rw zero at c.loop-rest.invariant.written)

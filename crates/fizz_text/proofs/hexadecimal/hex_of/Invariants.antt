@@ -1,6 +1,6 @@
 use Rattle.std.proofs.Common.{◌≡◌, ◌≤◌, ◌++◌, map, drop, length}
 use Rattle.std.specs.Int.Digits.{digits_of}
-use Rattle.fizz_text.specs.Hexadecimal.{hex_digit}
+use Rattle.std.specs.Char.{digit_char}
 use Rattle.fizz_text.proofs.hexadecimal.hex_of.Given as goal
 
 -- the digits still to be written, followed by those that stand, are those of the number
@@ -9,7 +9,7 @@ invariant-loop-rest l = record {
   size : length l.digits ≡ 8;
   room : length (digits_of 16 l.rest) ≤ l.start;
   within : l.start ≤ 8;
-  written : map hex_digit (digits_of 16 l.rest) ++ drop l.start l.digits ≡ map hex_digit (digits_of 16 l.fn.n);
+  written : map digit_char (digits_of 16 l.rest) ++ drop l.start l.digits ≡ map digit_char (digits_of 16 l.fn.n);
 }
 
 abbrev pub decreases-loop-rest : goal.decreases-loop-rest

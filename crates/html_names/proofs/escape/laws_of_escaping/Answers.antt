@@ -1,9 +1,9 @@
 use Rattle.std.proofs.lemmas.List.Concat.{flat_map-append}
 use Rattle.html_names.specs.Escape.{spelling_of}
-use Rattle.html_names.proofs.Escaping.{escaped_injective, escaped_clean, escaped_unmarked}
-use Rattle.html_names.proofs.Fronts.{front_is_open, open_is_front, clean_is_escaped}
-use Rattle.html_names.proofs.Unescaping.{clean_when_escaped}
-use Rattle.html_names.proofs.Utf8.{escaped_utf8, unescaped_utf8}
+use Rattle.html_names.proofs.EscapeLemmas.{escaped_injective, escaped_clean, escaped_unmarked}
+use Rattle.html_names.proofs.EscapedPrefixLemmas.{front_is_open, open_is_front, clean_is_escaped}
+use Rattle.html_names.proofs.UnescapeLemmas.{clean_when_escaped}
+use Rattle.html_names.proofs.Utf8Lemmas.{escaped_utf8, unescaped_utf8}
 use Rattle.html_names.proofs.escape.laws_of_escaping.Goals as goal
 
 pub returns : goal.returns
@@ -14,5 +14,5 @@ returns c = record {
   clean = λ bytes. (clean_is_escaped bytes, λ h. clean_when_escaped h.0 bytes h.1);
   inside = escaped_clean;
   unmarked = escaped_unmarked;
-  front = λ bytes. (front_is_open bytes, open_is_front bytes);
+  prefix = λ bytes. (front_is_open bytes, open_is_front bytes);
 }

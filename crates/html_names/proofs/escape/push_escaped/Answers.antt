@@ -1,8 +1,8 @@
 use Rattle.std.proofs.Common.{◌∙◌, sym, subst}
 use Rattle.std.specs.Str.{IsUtf8}
 use Rattle.std.proofs.lemmas.Str.{IsUtf8-append}
-use Rattle.html_names.proofs.JsReading.{when_ok}
-use Rattle.html_names.proofs.Utf8.{escaped_utf8}
+use Rattle.html_names.proofs.JsStringsLemmas.{when_ok}
+use Rattle.html_names.proofs.Utf8Lemmas.{escaped_utf8}
 use Rattle.html_names.proofs.escape.push_escaped.Goals as goal
 
 pub returns-clause-utf8 : goal.returns-clause-utf8

@@ -1,13 +1,13 @@
 use Rattle.std.proofs.Common.{◌≡◌, ◌∙◌, sym, subst}
 use Rattle.std.specs.Str.{IsUtf8}
-use Rattle.html_names.specs.Escape.{escaped}
-use Rattle.html_names.proofs.Escaping.{escaped_injective}
-use Rattle.html_names.proofs.Unescaping.{clean_when_escaped, first_bad_after, all_spelled, bad_left}
-use Rattle.html_names.proofs.Utf8.{unescaped_utf8}
+use Rattle.html_names.specs.Escape.{escape_of}
+use Rattle.html_names.proofs.EscapeLemmas.{escaped_injective}
+use Rattle.html_names.proofs.UnescapeLemmas.{clean_when_escaped, first_bad_after, all_spelled, bad_left}
+use Rattle.html_names.proofs.Utf8Lemmas.{unescaped_utf8}
 use Rattle.html_names.proofs.escape.unescape.Goals as goal
 
 -- Where nothing is left, the text is escaped as the bytes.
-whole : (c : goal.Then-is_empty) → escaped c.loop-byte.text.items ≡ c.args.bytes.now
+whole : (c : goal.Then-is_empty) → escape_of c.loop-byte.text.items ≡ c.args.bytes.now
 whole c = all_spelled _ _ _ _ c.loop-byte.invariant c.is_empty.ensures c.if-is_empty.true
 
 pub returns-then-is_empty-clause-one : goal.returns-then-is_empty-clause-one

@@ -1,8 +1,8 @@
 use Rattle.std.proofs.Common.{◌/◌, ◌%◌, ◌<◌, get_or, ap, sym, ◌∙◌, arith}
 use Rattle.std.proofs.lemmas.Slice.Eq.{bytes_eq-Decides}
 use Rattle.html_names.specs.JsStrings.{four_digits}
-use Rattle.html_names.proofs.JsChars.{code_from_digits, coded_small}
-use Rattle.html_names.proofs.JsReading.{apart_bools}
+use Rattle.html_names.proofs.JsStringsCharLemmas.{code_from_digits, coded_small}
+use Rattle.html_names.proofs.JsStringsLemmas.{apart_bools}
 use Rattle.html_names.proofs.js_string.coded_char.Goals as goal
 
 pub returns-else-eq : goal.returns-else-eq

@@ -1,5 +1,5 @@
-use Rattle.html_names.proofs.JsReading.{one_string, string_utf8}
-use Rattle.html_names.proofs.NoMark.{string_no_mark}
+use Rattle.html_names.proofs.JsStringsLemmas.{one_string, string_utf8}
+use Rattle.html_names.proofs.JsStringsMarkLemmas.{string_no_mark}
 use Rattle.html_names.proofs.js_string.laws_of_js_strings.Goals as goal
 
 pub returns : goal.returns

@@ -1,7 +1,7 @@
 use Rattle.std.proofs.Common.{◌∙◌, sym, subst}
 use Rattle.std.specs.Str.{IsUtf8}
 use Rattle.std.proofs.lemmas.Str.{IsUtf8-append}
-use Rattle.html_names.proofs.JsReading.{string_utf8, when_ok}
+use Rattle.html_names.proofs.JsStringsLemmas.{string_utf8, when_ok}
 use Rattle.html_names.proofs.js_string.push_js_string.Goals as goal
 
 pub returns-clause-utf8 : goal.returns-clause-utf8

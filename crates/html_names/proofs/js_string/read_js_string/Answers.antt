@@ -3,7 +3,7 @@ use Rattle.std.specs.List.{flat_map}
 use Rattle.std.specs.Str.{IsUtf8, chars}
 use Rattle.std.proofs.lemmas.Str.{IsUtf8-append, IsUtf8-encode, IsUtf8-nil}
 use Rattle.html_names.specs.JsStrings.{char_spelling}
-use Rattle.html_names.proofs.JsReading.{quote_first, not_first, first_string, shorter_rest, read_more, whole_string, no_string}
+use Rattle.html_names.proofs.JsStringsLemmas.{quote_first, not_first, first_string, shorter_rest, read_more, whole_string, no_string}
 use Rattle.html_names.proofs.js_string.read_js_string.Goals as goal
 
 pub loop-c-init : goal.loop-c-init

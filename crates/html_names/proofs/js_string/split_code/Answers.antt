@@ -1,5 +1,5 @@
 use Rattle.std.proofs.Common.{◌∙◌}
-use Rattle.html_names.proofs.JsReading.{no_digits, no_code}
+use Rattle.html_names.proofs.JsStringsLemmas.{no_digits, no_code}
 use Rattle.html_names.proofs.js_string.split_code.Goals as goal
 
 pub returns-in_default : goal.returns-in_default

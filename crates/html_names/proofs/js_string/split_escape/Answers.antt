@@ -1,7 +1,7 @@
 use Rattle.std.proofs.Common.{◌∷◌, ℕ, List, sym, subst}
 use Rattle.std.proofs.lemmas.List.{nil_from_length}
 use Rattle.html_names.specs.JsStrings.{BeginsNoChar}
-use Rattle.html_names.proofs.JsReading.{no_end, no_letter}
+use Rattle.html_names.proofs.JsStringsLemmas.{no_end, no_letter}
 use Rattle.html_names.proofs.js_string.split_escape.Goals as goal
 
 pub returns-in_default : goal.returns-in_default

@@ -1,4 +1,4 @@
-use Rattle.html_names.proofs.JsReading.{other_front}
+use Rattle.html_names.proofs.JsStringsLemmas.{other_front}
 use Rattle.html_names.proofs.js_string.split_itself.Goals as goal
 
 pub returns-in_default-spelling_of : goal.returns-in_default-spelling_of

@@ -1,10 +1,8 @@
-use Rattle.html_names.specs.Elements.{element_rows}
+use Rattle.std.proofs.Common.{◌∙◌, sym}
 use Rattle.html_names.proofs.names.element.Goals as goal
 
 pub returns-in-Some : goal.returns-in-Some
-unfolding element_rows
-returns-in-Some c = c.in-Some.ensures
+returns-in-Some c = (c.in-Some.ensures.0, sym c.rows_for.ensures.named ∙ c.in-Some.ensures.1)
 
 pub returns-in-None : goal.returns-in-None
-unfolding element_rows
-returns-in-None c = c.in-None.ensures
+returns-in-None c = sym c.rows_for.ensures.named ∙ c.in-None.ensures

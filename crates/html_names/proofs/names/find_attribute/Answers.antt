@@ -1,7 +1,7 @@
 use Rattle.std.proofs.Common.{◌∙◌, sym, ap, option_map}
 use Rattle.std.specs.Str.{bytes_eq}
 use Rattle.html_names.specs.Rows.{pair_meaning}
-use Rattle.html_names.proofs.Rows.{meaning_found}
+use Rattle.html_names.proofs.RowsLemmas.{meaning_found}
 use Rattle.html_names.proofs.names.find_attribute.Goals as goal
 
 pub returns-in-Some : goal.returns-in-Some

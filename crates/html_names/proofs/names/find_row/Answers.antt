@@ -3,7 +3,7 @@ use Rattle.std.specs.Map.{lookup}
 use Rattle.std.specs.Str.{bytes_eq}
 use Rattle.std.proofs.lemmas.Slice.Eq.{bytes_eq-Decides}
 use Rattle.html_names.specs.Rows.{row_of}
-use Rattle.html_names.proofs.Rows.{row_found}
+use Rattle.html_names.proofs.RowsLemmas.{row_found}
 use Rattle.html_names.proofs.names.find_row.Goals as goal
 
 pub returns-then-eq : goal.returns-then-eq

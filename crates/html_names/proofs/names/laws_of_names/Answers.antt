@@ -1,5 +1,5 @@
 use Rattle.std.proofs.Common.{◌++◌, codes}
-use Rattle.html_names.proofs.PlainNames.{element_is_plain, attribute_is_plain, reserved_after}
+use Rattle.html_names.proofs.NamesLemmas.{element_is_plain, attribute_is_plain, reserved_after}
 use Rattle.html_names.proofs.names.laws_of_names.Goals as goal
 
 pub returns : goal.returns

@@ -1,6 +1,6 @@
 use Rattle.std.proofs.Common.{◌≡◌, length, ◌+◌, sym, ◌∙◌, ap, arith}
 use Rattle.std.proofs.lemmas.Bool.{eqb-true}
-use Rattle.html_read.proofs.Built.{none_some, same_some, Parts, attribute_parts, plain_attribute, ValueParts, value_parts, found_value}
+use Rattle.html_read.proofs.BuildingLemmas.{none_some, same_some, Parts, attribute_parts, plain_attribute, ValueParts, value_parts, found_value}
 use Rattle.html_read.proofs.building.attribute_at.Goals as goal
 
 pub returns-in_default-2-clause-found : goal.returns-in_default-2-clause-found

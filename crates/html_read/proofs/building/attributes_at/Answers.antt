@@ -1,6 +1,6 @@
 use Rattle.std.proofs.Common.{◌≤◌, length, ◌+◌, sym, ap, subst, arith}
 use Rattle.std.proofs.lemmas.List.{take_rest, length-drop}
-use Rattle.html_read.proofs.Built.{Left, all_left, attribute_more, attributes_end}
+use Rattle.html_read.proofs.BuildingLemmas.{Left, all_left, attribute_more, attributes_end}
 use Rattle.html_read.proofs.building.attributes_at.Goals as goal
 
 pub attributes-init : goal.attributes-init

@@ -1,7 +1,7 @@
 use Rattle.std.proofs.Common.{sym, ◌∙◌}
 use Rattle.std.proofs.lemmas.Slice.Eq.{bytes_eq-Decides}
-use Rattle.html_read.proofs.Built.{no_tag, start_tag, void_tag, other_tag}
-use Rattle.html_read.proofs.WordFronts.{none_true}
+use Rattle.html_read.proofs.BuildingLemmas.{no_tag, start_tag, void_tag, other_tag}
+use Rattle.html_read.proofs.WordLemmas.{none_true}
 use Rattle.html_read.proofs.building.tag_of.Goals as goal
 
 pub returns-in_default : goal.returns-in_default

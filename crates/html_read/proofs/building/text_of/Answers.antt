@@ -1,4 +1,4 @@
-use Rattle.html_read.proofs.Built.{no_bad}
+use Rattle.html_read.proofs.BuildingLemmas.{no_bad}
 use Rattle.html_read.proofs.building.text_of.Goals as goal
 
 -- an escaped text has no bad place

@@ -1,5 +1,5 @@
 use Rattle.std.proofs.Common.{sym, ◌∙◌}
-use Rattle.html_read.proofs.Built.{if_ok, end_branch, comment_branch, script_branch, tag_branch}
+use Rattle.html_read.proofs.BuildingLemmas.{if_ok, end_branch, comment_branch, script_branch, tag_branch}
 use Rattle.html_read.proofs.building.token_of.Goals as goal
 
 pub returns-then-starts_with : goal.returns-then-starts_with

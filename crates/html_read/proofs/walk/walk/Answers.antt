@@ -1,6 +1,6 @@
 use Rattle.std.proofs.Common.{◌≡◌, ◌≤◌, ℕ, Option, Some, None, arith}
 use Rattle.html_read.specs.declared.fault.ReadKind.{ReadKind}
-use Rattle.html_read.proofs.Walking.{walk_on, walk_fails, walk_mode, walk_ends}
+use Rattle.html_read.proofs.WalksLemmas.{walk_on, walk_fails, walk_mode, walk_ends}
 use Rattle.html_read.proofs.walk.walk.Goals as goal
 
 some_none : (x : ℕ × ReadKind) → ◌≡◌ {A = Option (ℕ × ReadKind)} (Some x) None → ⊥

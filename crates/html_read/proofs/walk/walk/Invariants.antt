@@ -1,4 +1,4 @@
-use Rattle.html_read.proofs.Walking.{Walks}
+use Rattle.html_read.proofs.WalksLemmas.{Walks}
 use Rattle.html_read.proofs.walk.walk.Given as goal
 
 abbrev pub invariant-loop-i : goal.invariant-loop-i

@@ -1,6 +1,6 @@
 use Rattle.std.proofs.Common.{nat_eq, ◌||◌, codes, sym, ap, ◌∙◌}
 use Rattle.std.specs.List.{starts_with}
-use Rattle.html_read.proofs.WordFronts.{tag_front_is}
+use Rattle.html_read.proofs.WordLemmas.{tag_front_is}
 use Rattle.html_read.proofs.words.begins_tag_name.Goals as goal
 
 pub returns-then-begins_element : goal.returns-then-begins_element

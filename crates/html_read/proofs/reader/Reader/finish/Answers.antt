@@ -1,7 +1,7 @@
 use Rattle.std.proofs.Common.{◌∙◌, sym, subst}
 use Rattle.html_read.specs.Building.{IsTokenOf}
 use Rattle.html_read.specs.Reading.{ReaderState, IsUnfinished, IsLast}
-use Rattle.html_read.proofs.Finishing.{unfinished, open_text_is, last_whole, whole_mode, not_whole, not_empty}
+use Rattle.html_read.proofs.FinishCauseLemmas.{unfinished, open_text_is, last_whole, whole_mode, not_whole, not_empty}
 use Rattle.html_read.proofs.reader.Reader.finish.Goals as goal
 
 pub returns-then-not-is_whole_text-clause-refused : goal.returns-then-not-is_whole_text-clause-refused

@@ -1,8 +1,8 @@
 use Rattle.std.proofs.Common.{◌∙◌, None, sym, subst}
 use Rattle.html_read.specs.Building.{IsTokenOf}
 use Rattle.html_read.specs.Reading.{ReaderState, IsTextSoFar}
-use Rattle.html_read.proofs.Built.{if_ok}
-use Rattle.html_read.proofs.Finishing.{open_text_is, last_so_far, no_text_faulty, no_text_when_empty, no_text_else, whole_mode, not_whole, not_empty, is_nothing, none_of}
+use Rattle.html_read.proofs.BuildingLemmas.{if_ok}
+use Rattle.html_read.proofs.FinishCauseLemmas.{open_text_is, last_so_far, no_text_faulty, no_text_when_empty, no_text_else, whole_mode, not_whole, not_empty, is_nothing, none_of}
 use Rattle.html_read.proofs.reader.Reader.open_text.Goals as goal
 use Rattle.html_read.proofs.reader.Reader.open_text.Goals.{then-is_some-via-then-is_some, then-is_some-via-else-is_some+then-is_empty, then-is_some-via-else-is_some+else-is_empty+then-not-is_whole_text}
 

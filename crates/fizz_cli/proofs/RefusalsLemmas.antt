@@ -1,0 +1,164 @@
+-- Facts about refusals: what is accepted is not refused, and files are refused for one thing at most.
+use Rattle.std.proofs.Common.{◌≡◌, ℕ, ◌<◌, ◌≤◌, ◌⊎◌, List, length, Option, refl, sym, ◌∙◌, ap, subst, inl, inr, arith}
+use Rattle.std.proofs.lemmas.Bool.{cases_lt}
+use Rattle.std.proofs.lemmas.List.{take_all}
+use Rattle.std.specs.Str.{IsUtf8, IsValidUpTo}
+use Rattle.fizz_outside.specs.FileContents.{Contents}
+use Rattle.dom_forest.specs.declared.document.DocNode.{DocNode}
+use Rattle.document_machine.specs.Running.{PageState, at_first}
+use Rattle.document_machine.specs.Documents.{Runs}
+use Rattle.document_machine.specs.Faults.{EndsEarly, HasMachineFault}
+use Rattle.document_machine.specs.Settled.{counted, is_pending}
+use Rattle.document_machine.specs.Views.{view_of}
+use Rattle.document_machine.specs.declared.fault.MachineFault.{MachineFault}
+use Rattle.document_machine.specs.declared.fault.MachineFault.TheVariants as fault
+use Rattle.fizz_cli.specs.AppFiles.{AcceptsApp, RefusesApp, RefusesAppBytes, most_app_bytes}
+use Rattle.fizz_cli.specs.PageFiles.{RefusesPage, RefusesPageBytes, ShowsFile, StaysPending, most_page_bytes}
+use Rattle.fizz_cli.specs.Rendering.{Means, RefusesRender}
+use Rattle.fizz_cli.specs.ScriptFiles.{AcceptsScript, IsEmptyScript, RefusesScript, RefusesScriptBytes, most_script_bytes}
+use Rattle.fizz_cli.specs.Serving.{Accepts, Refuses}
+use Rattle.fizz_cli.specs.Source.{IsPageFile}
+use Rattle.fizz_cli.specs.declared.command.Command.{Command}
+use Rattle.fizz_cli.specs.declared.command.Command.TheVariants.{Render, Show}
+use Rattle.fizz_cli.specs.declared.refusal.AppFault.{AppFault}
+use Rattle.fizz_cli.specs.declared.refusal.AppFault.TheVariants.{NotUtf8, Unbuilt}
+use Rattle.fizz_cli.specs.declared.refusal.FileFault.TheVariants.{App, Script, Page}
+use Rattle.fizz_cli.specs.declared.refusal.PageFault.{PageFault}
+use Rattle.fizz_cli.specs.declared.refusal.PageFault.TheVariants.{Html, UnknownFunction, NoSuchId, NotBoundary, StillPending}
+use Rattle.fizz_cli.specs.declared.refusal.Refusal.{Refusal}
+use Rattle.fizz_cli.specs.declared.refusal.ScriptFault.{ScriptFault}
+use Rattle.fizz_cli.specs.declared.refusal.ScriptFault.TheVariants as script
+use Rattle.fizz_cli.proofs.Pages.{MachineLaws, shown_sound}
+use Rattle.fizz_cli.proofs.StepsLemmas.{file_excludes, one_file_refusal, refuses_quiet}
+
+-- component files
+
+not_cut : (bytes : List ℕ) (valid : ℕ) → IsUtf8 bytes → IsValidUpTo bytes valid → ⊥
+not_cut bytes valid utf8 cut =
+    cut.longest (length bytes) cut.short (subst IsUtf8 (sym (take_all (length bytes) bytes (omega arith))) utf8)
+
+app_sound : (bytes : List ℕ) (nodes : List DocNode) (f : AppFault) → IsUtf8 bytes → IsPageFile bytes nodes → RefusesAppBytes bytes f → ⊥
+app_sound bytes nodes (NotUtf8 valid) utf8 means r = not_cut bytes valid utf8 r
+app_sound bytes nodes Unbuilt utf8 means r = r.1 nodes means
+
+pub app_excludes : (name : List ℕ) (file : Option (List ℕ)) (nodes : List DocNode) (refusal : Refusal) → AcceptsApp file nodes →
+    RefusesApp ⊥ name file refusal → ⊥
+app_excludes name file nodes refusal a r =
+    file_excludes App RefusesAppBytes most_app_bytes name file a.bytes refusal a.is_file (λ f. app_sound a.bytes nodes f a.utf8 a.means) r
+
+same_valid : (bytes : List ℕ) (m n : ℕ) → IsValidUpTo bytes m → IsValidUpTo bytes n → m ≡ n
+same_valid bytes m n p q = by_order (cases_lt m n) (cases_lt n m)
+  where
+    by_order : (m < n) ⊎ (n ≤ m) → (n < m) ⊎ (m ≤ n) → m ≡ n
+    by_order (inl less) more = absurd (p.longest n less q.front)
+    by_order (inr le) (inl more) = absurd (q.longest m more p.front)
+    by_order (inr le) (inr ge) = omega (arith, le, ge)
+
+one_app_fault : (bytes : List ℕ) (a b : AppFault) → RefusesAppBytes bytes a → RefusesAppBytes bytes b → a ≡ b
+one_app_fault bytes (NotUtf8 m) (NotUtf8 n) p q = ap NotUtf8 (same_valid bytes m n p q)
+one_app_fault bytes (NotUtf8 m) Unbuilt p q = absurd (not_cut bytes m q.0 p)
+one_app_fault bytes Unbuilt (NotUtf8 n) p q = absurd (not_cut bytes n p.0 q)
+one_app_fault bytes Unbuilt Unbuilt p q = refl
+
+one_app : (name : List ℕ) (file : Option (List ℕ)) (a b : Refusal) → RefusesApp ⊥ name file a → RefusesApp ⊥ name file b → a ≡ b
+one_app name file a b p q = one_file_refusal App RefusesAppBytes most_app_bytes name file a b one_app_fault p q
+
+-- scripts
+
+script_sound : (bytes : List ℕ) (f : ScriptFault) → IsEmptyScript bytes → RefusesScriptBytes bytes f → ⊥
+script_sound bytes script.Unbuilt empty r = r empty
+
+pub script_excludes : (name : List ℕ) (file : Option (List ℕ)) (refusal : Refusal) → AcceptsScript file → RefusesScript ⊥ name file refusal → ⊥
+script_excludes name file refusal a r =
+    file_excludes Script RefusesScriptBytes most_script_bytes name file a.bytes refusal a.is_file (λ f. script_sound a.bytes f a.empty) r
+
+one_script_fault : (bytes : List ℕ) (a b : ScriptFault) → RefusesScriptBytes bytes a → RefusesScriptBytes bytes b → a ≡ b
+one_script_fault bytes script.Unbuilt script.Unbuilt p q = refl
+
+one_script : (name : List ℕ) (file : Option (List ℕ)) (a b : Refusal) → RefusesScript ⊥ name file a → RefusesScript ⊥ name file b → a ≡ b
+one_script name file a b p q = one_file_refusal Script RefusesScriptBytes most_script_bytes name file a b one_script_fault p q
+
+-- page files
+
+pub page_excludes : (prefix : List ℕ) → MachineLaws prefix → (name : List ℕ) (file : Option (List ℕ)) (out : List ℕ) (refusal : Refusal) →
+    ShowsFile prefix file out → RefusesPage prefix ⊥ name file refusal → ⊥
+page_excludes prefix laws name file out refusal s r =
+    file_excludes Page (RefusesPageBytes prefix) most_page_bytes name file s.bytes refusal s.is_file
+    (λ f. shown_sound prefix laws s.bytes out f s.shows) r
+
+-- what a fault of the machine is as a page's
+abbrev fault_as : MachineFault → Option PageFault
+fault_as (fault.Html at) = Option.Some (Html at)
+fault_as (fault.UnknownFunction at) = Option.Some (UnknownFunction at)
+fault_as (fault.NoSuchId at id) = Option.Some (NoSuchId at id)
+fault_as (fault.NotBoundary at) = Option.Some (NotBoundary at)
+fault_as fault.OutOfMemory = Option.None
+
+data PageCause (prefix bytes : List ℕ) (f : PageFault) : Type 0 where
+  faults : (met : MachineFault) → fault_as met ≡ Option.Some f → HasMachineFault prefix at_first bytes met → PageCause prefix bytes f
+  ends : (at : ℕ) → f ≡ Html at → EndsEarly prefix at_first bytes at → PageCause prefix bytes f
+  waits : (count : ℕ) → f ≡ StillPending count → StaysPending prefix bytes count → PageCause prefix bytes f
+
+page_cause : (prefix bytes : List ℕ) (f : PageFault) → RefusesPageBytes prefix bytes f → PageCause prefix bytes f
+page_cause prefix bytes (Html at) (inl f) = faults (fault.Html at) refl f
+page_cause prefix bytes (Html at) (inr e) = ends at refl e
+page_cause prefix bytes (UnknownFunction at) f = faults (fault.UnknownFunction at) refl f
+page_cause prefix bytes (NoSuchId at id) f = faults (fault.NoSuchId at id) refl f
+page_cause prefix bytes (NotBoundary at) f = faults (fault.NotBoundary at) refl f
+page_cause prefix bytes (StillPending count) p = waits count refl p
+
+-- bytes that end early run
+ends_run : (prefix bytes : List ℕ) (at : ℕ) (e : EndsEarly prefix at_first bytes at) → Runs prefix at_first bytes e.built
+ends_run prefix bytes at e = record { toks = e.toks; rest = e.rest; last = e.last; split = e.split; text = e.text; steps = e.steps }
+
+same_count : (prefix : List ℕ) → MachineLaws prefix → (bytes : List ℕ) (m n : ℕ) → StaysPending prefix bytes m → StaysPending prefix bytes n → m ≡ n
+same_count prefix laws bytes m n p q =
+    p.counts ∙ ap (λ (b : PageState). counted is_pending (view_of prefix b.dom.forest)) (laws.one p.built q.built bytes p.whole.run q.whole.run) ∙ sym q.counts
+
+same_fault : (x y : Option PageFault) (a b : PageFault) → x ≡ y → x ≡ Option.Some a → y ≡ Option.Some b → a ≡ b
+same_fault x y a b e p q = cc
+
+pub record FaultLaws (prefix : List ℕ) : Type 0 where
+  pub one_fault : (bytes : List ℕ) (f g : MachineFault) → HasMachineFault prefix at_first bytes f → HasMachineFault prefix at_first bytes g → f ≡ g
+  pub one_end : (bytes : List ℕ) (m n : ℕ) → EndsEarly prefix at_first bytes m → EndsEarly prefix at_first bytes n → m ≡ n
+
+one_cause : (prefix : List ℕ) → MachineLaws prefix → FaultLaws prefix → (bytes : List ℕ) (a b : PageFault) → PageCause prefix bytes a → PageCause prefix bytes b → a ≡ b
+one_cause prefix laws ones bytes a b (faults f x p) (faults g y q) = same_fault _ _ a b (ap fault_as (ones.one_fault bytes f g p q)) x y
+one_cause prefix laws ones bytes a b (faults f x p) (ends n y q) = absurd (laws.sound q.built bytes (ends_run prefix bytes n q) f p)
+one_cause prefix laws ones bytes a b (faults f x p) (waits n y q) = absurd (laws.sound q.built bytes q.whole.run f p)
+one_cause prefix laws ones bytes a b (ends m x p) (faults g y q) = absurd (laws.sound p.built bytes (ends_run prefix bytes m p) g q)
+one_cause prefix laws ones bytes a b (ends m x p) (ends n y q) = x ∙ ap Html (ones.one_end bytes m n p q) ∙ sym y
+one_cause prefix laws ones bytes a b (ends m x p) (waits n y q) = absurd (laws.whole q.built bytes m q.whole p)
+one_cause prefix laws ones bytes a b (waits m x p) (faults g y q) = absurd (laws.sound p.built bytes p.whole.run g q)
+one_cause prefix laws ones bytes a b (waits m x p) (ends n y q) = absurd (laws.whole p.built bytes n p.whole q)
+one_cause prefix laws ones bytes a b (waits m x p) (waits n y q) = x ∙ ap StillPending (same_count prefix laws bytes m n p q) ∙ sym y
+
+pub one_page_refusal : (prefix : List ℕ) → MachineLaws prefix → FaultLaws prefix → (name : List ℕ) (file : Option (List ℕ)) (a b : Refusal) →
+    RefusesPage prefix ⊥ name file a → RefusesPage prefix ⊥ name file b → a ≡ b
+one_page_refusal prefix laws ones name file a b p q =
+    one_file_refusal Page (RefusesPageBytes prefix) most_page_bytes name file a b
+    (λ bytes f g r s. one_cause prefix laws ones bytes f g (page_cause prefix bytes f r) (page_cause prefix bytes g s)) p q
+
+-- commands
+
+pub render_excludes : (at : Contents) (app script_name : List ℕ) (nodes : List DocNode) (refusal : Refusal) → Means at app script_name nodes →
+    RefusesRender at app script_name ⊥ refusal → ⊥
+render_excludes at app script_name nodes refusal m (inl r) = app_excludes app (at app) nodes refusal m.is_app r
+render_excludes at app script_name nodes refusal m (inr r) = script_excludes script_name (at script_name) refusal m.is_script r.2
+
+pub one_render : (at : Contents) (app script_name : List ℕ) (a b : Refusal) → RefusesRender at app script_name ⊥ a →
+    RefusesRender at app script_name ⊥ b → a ≡ b
+one_render at app script_name a b (inl p) (inl q) = one_app app (at app) a b p q
+one_render at app script_name a b (inl p) (inr q) = absurd (app_excludes app (at app) q.0 a q.1 p)
+one_render at app script_name a b (inr p) (inl q) = absurd (app_excludes app (at app) p.0 b p.1 q)
+one_render at app script_name a b (inr p) (inr q) = one_script script_name (at script_name) a b p.2 q.2
+
+-- where the files counted no fault, what they hold is the cause
+pub refuses_at_rest : (at : Contents) (command : Command) (faulted : Type 0) (refusal : Refusal) → (faulted → ⊥) →
+    Refuses at command faulted refusal → Refuses at command ⊥ refusal
+refuses_at_rest at (Render app script_name options workers) faulted refusal quiet (inl r) =
+    inl (refuses_quiet App RefusesAppBytes faulted most_app_bytes app (at app) refusal quiet r)
+refuses_at_rest at (Render app script_name options workers) faulted refusal quiet (inr r) =
+    inr (r.0, r.1, refuses_quiet Script RefusesScriptBytes faulted most_script_bytes script_name (at script_name) refusal quiet r.2)
+refuses_at_rest at (Show file prefix) faulted refusal quiet r =
+    refuses_quiet Page (RefusesPageBytes prefix) faulted most_page_bytes file (at file) refusal quiet r

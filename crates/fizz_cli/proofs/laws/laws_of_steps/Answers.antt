@@ -1,0 +1,15 @@
+use Rattle.fizz_cli.proofs.Pages.{MachineLaws}
+use Rattle.fizz_cli.proofs.RefusalsLemmas.{app_excludes, page_excludes}
+use Rattle.fizz_cli.proofs.laws.laws_of_steps.Goals as goal
+
+pub returns-clause-app : goal.returns-clause-app
+returns-clause-app c = app_excludes
+
+pub returns-clause-page : goal.returns-clause-page
+returns-clause-page c = λ prefix name file out refusal utf8.
+    let laws : MachineLaws prefix = record {
+      one = λ a b bytes r s. c.laws_of_documents.ensures.one prefix _ a b bytes utf8 r s;
+      sound = λ end bytes r met f. c.laws_of_documents.ensures.sound prefix _ end bytes utf8 r met f;
+      whole = λ end bytes at r e. c.laws_of_documents.ensures.whole prefix _ end bytes at utf8 r e;
+    } in
+    page_excludes prefix laws name file out refusal

@@ -1,0 +1,45 @@
+-- What each command does: why it is refused, what stands on the output and in files when it is done, what may stand on
+-- the output where it was cut off, what stays there with a refusal, and which files it may write.
+use Rattle.std.specs.Prelude.{◌≡◌, ℕ, ◌⊎◌, List, [], take, Option}
+use Rattle.std.specs.Io.KnownBytes.{Keeps}
+use Rattle.dom_forest.specs.declared.document.DocNode.{DocNode}
+use Rattle.fizz_outside.specs.FileContents.{Contents}
+use Rattle.fizz_cli.specs.PageFiles.{RefusesPage, ShowsFile}
+use Rattle.fizz_cli.specs.Rendering.{Means, RefusesRender, RendersSettled}
+use Rattle.fizz_cli.specs.declared.command.Command.{Command}
+use Rattle.fizz_cli.specs.declared.command.Command.TheVariants.{Render, Show}
+use Rattle.fizz_cli.specs.declared.refusal.Refusal.{Refusal}
+
+-- Why the command is refused. `faulted` stands for "the files counted a fault".
+abbrev pub Refuses : Contents → Command → Type 0 → Refusal → Type 0
+Refuses at (Render app script options workers) faulted refusal = RefusesRender at app script faulted refusal
+Refuses at (Show file prefix) faulted refusal = RefusesPage prefix faulted file (at file) refusal
+
+-- The files are accepted: they mean a document, or the page file has a settled one.
+abbrev pub Accepts : Contents → Command → Type 0
+Accepts at (Render app script options workers) = (nodes : List DocNode) × Means at app script nodes
+Accepts at (Show file prefix) = (out : List ℕ) × ShowsFile prefix (at file) out
+
+-- What was appended to the output, and what the files hold then, when the command is done.
+abbrev pub Completes : Contents → Command → Contents → List ℕ → Type 0
+Completes at (Render app script options workers) now written = RendersSettled at app script written
+Completes at (Show file prefix) now written = ShowsFile prefix (at file) written
+
+-- nothing, or a prefix of an output
+abbrev pub IsPrefixOf : (List ℕ → Type 0) → List ℕ → Type 0
+IsPrefixOf outputs written = (written ≡ []) ⊎ ((whole : List ℕ) × (n : ℕ) × outputs whole × (written ≡ take n whole))
+
+-- What may have been appended to the output where the command was cut off.
+abbrev pub IsPart : Contents → Command → List ℕ → Type 0
+IsPart at (Render app script options workers) written = IsPrefixOf (RendersSettled at app script) written
+IsPart at (Show file prefix) written = IsPrefixOf (ShowsFile prefix (at file)) written
+
+-- What stays on the output with a refusal. The commands that are built leave nothing there.
+abbrev pub Leaves : Command → Refusal → Option (List ℕ) → Option (List ℕ) → Type 0
+Leaves (Render app script options workers) refusal old new = Keeps old new
+Leaves (Show file prefix) refusal old new = Keeps old new
+
+-- The files that the command may write.
+abbrev pub MayWrite : Command → List ℕ → Type 0
+MayWrite (Render app script options workers) name = ⊥
+MayWrite (Show file prefix) name = ⊥

@@ -1,0 +1,30 @@
+//! The commands, each served by a function that is handed the output.
+
+mod render;
+mod show;
+
+ghost use Rattle.std.specs.Prelude.{◌≡◌};
+ghost use Rattle.fizz_cli.specs.Ends.{Serves};
+ghost use Rattle.fizz_cli.specs.Reports.{files_change, sink_change};
+
+use crate::command::Command;
+use crate::stop::Stop;
+use fizz_outside::{Files, Sink};
+use std::alloc::Global;
+
+/// Serves a command: writes to the output and to files what it is to write, unless it is refused.
+pub(crate) fn serve<F: Files, S: Sink>(
+    alloc: Global,
+    command: &Command,
+    files: &mut F,
+    out: &mut S,
+) -> Result<(), Stop>
+    ensures { Serves command.now
+        (files_change (F.files files.old) (F.faults files.old) (F.files files.new) (F.faults files.new))
+        (sink_change (S.contents out.old) (S.faults out.old) (S.contents out.new) (S.faults out.new)) result }
+{
+    match command {
+        Command::Render { app, script, .. } => render::serve(alloc, app, script, files, out),
+        Command::Show { file, prefix } => show::serve(alloc, file, prefix, files, out),
+    }
+}

@@ -1,0 +1,10 @@
+//! The steps of commands: what they do with their files, one after another.
+
+mod app_file;
+mod page_file;
+mod read_file;
+mod script_file;
+
+pub(crate) use app_file::read_app;
+pub(crate) use page_file::read_page;
+pub(crate) use script_file::read_script;
