@@ -4,7 +4,7 @@ use Rattle.std.specs.Prelude.{ℕ, List, [], ◌∷◌, codes, Bool, if◌then�
 use Rattle.std.specs.Fmt.{signed_decimal}
 use Rattle.fizz_text.specs.declared.attribute.Attr.{Attr}
 use Rattle.html_names.specs.declared.attributes.AttrKind.{AttrKind}
-use Rattle.html_names.specs.declared.attributes.AttrKind.TheVariants.{Plain, Flag, Spoken, Id, Key}
+use Rattle.html_names.specs.declared.attributes.AttrKind.TheVariants.{Plain, Boolean, Booleanish, Id, Key}
 use Rattle.html_names.specs.Attributes.{Meaning, attribute_of, printed_name, is_reserved}
 use Rattle.settle_script.specs.declared.value.Value.{Value, out-Value}
 use Rattle.settle_script.specs.declared.value.Value.TheOpen.{Value-F}
@@ -20,13 +20,13 @@ plain_value (Value-F.List items) = None
 plain_value (Value-F.Record members) = None
 
 -- so is a truth value
-abbrev pub spoken_value : Layer → Option (List ℕ)
-spoken_value Value-F.Null = None
-spoken_value (Value-F.Bool b) = Some (if b then codes "true" else codes "false")
-spoken_value (Value-F.Int n) = Some (signed_decimal n)
-spoken_value (Value-F.Text s) = Some s
-spoken_value (Value-F.List items) = None
-spoken_value (Value-F.Record members) = None
+abbrev pub booleanish_value : Layer → Option (List ℕ)
+booleanish_value Value-F.Null = None
+booleanish_value (Value-F.Bool b) = Some (if b then codes "true" else codes "false")
+booleanish_value (Value-F.Int n) = Some (signed_decimal n)
+booleanish_value (Value-F.Text s) = Some s
+booleanish_value (Value-F.List items) = None
+booleanish_value (Value-F.Record members) = None
 
 -- an id of the renderer's own form isn't printed
 abbrev pub unless_reserved : List ℕ → List ℕ → Option (List ℕ)
@@ -35,8 +35,8 @@ unless_reserved prefix value = if is_reserved prefix value then None else Some v
 -- the printed value of an attribute of a kind, or None where it isn't printed
 abbrev pub printed_value : List ℕ → AttrKind → Layer → Option (List ℕ)
 printed_value prefix Plain layer = plain_value layer
-printed_value prefix Flag layer = if layer_truth layer then Some [] else None
-printed_value prefix Spoken layer = spoken_value layer
+printed_value prefix Boolean layer = if layer_truth layer then Some [] else None
+printed_value prefix Booleanish layer = booleanish_value layer
 printed_value prefix Id layer = option_and_then (unless_reserved prefix) (plain_value layer)
 printed_value prefix Key layer = None
 
