@@ -3,3 +3,4 @@ pub mod Expressions
 pub mod PrintedAttributes
 pub mod Positions
 pub mod Spots
+pub mod Seen

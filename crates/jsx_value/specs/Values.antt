@@ -39,18 +39,18 @@ layer_text (Value-F.Record members) = []
 abbrev pub text_of : Value → List ℕ
 text_of value = layer_text (out-Value value)
 
+-- a number outside i64 is Null
+abbrev pub whole_or_null : ℤ → Value
+whole_or_null z = if int_le (negsuc (2 ^ 63 - 1)) z && int_lt z (pos (2 ^ 63)) then v.Int z else v.Null
+
 -- `value.name`: the member of a record, the number of items under `length` of a list, and Null where there is none
 abbrev pub layer_member : Layer → List ℕ → Value
-layer_member (Value-F.List items) name = if bytes_eq name (codes "length") then v.Int (pos (length items)) else v.Null
+layer_member (Value-F.List items) name = if bytes_eq name (codes "length") then whole_or_null (pos (length items)) else v.Null
 layer_member (Value-F.Record members) name = unwrap_or (entry_named name members) v.Null
 layer_member layer name = v.Null
 
 abbrev pub member_of : Value → List ℕ → Value
 member_of value name = layer_member (out-Value value) name
-
--- a number outside i64 is Null
-abbrev pub whole_or_null : ℤ → Value
-whole_or_null z = if int_le (negsuc (2 ^ 63 - 1)) z && int_lt z (pos (2 ^ 63)) then v.Int z else v.Null
 
 -- a text that `+` makes has at most 65,536 bytes, and is Null where it had more
 abbrev pub text_or_null : List ℕ → Value

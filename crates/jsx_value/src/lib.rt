@@ -2,5 +2,7 @@
 #![tactic(auto)]
 
 mod shape;
+mod val;
 
 pub use shape::{Shape, Tree};
+pub use val::Val;

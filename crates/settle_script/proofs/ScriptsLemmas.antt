@@ -1,20 +1,20 @@
 -- The lines of a script and what they settle.
-use Rattle.std.proofs.Common.{◌≡◌, ℕ, zero, suc, ◌+◌, ◌<◌, ◌≤◌, min, nat_lt, Bool, true, false, if◌then◌else◌, Option, Some, None, inl, inr, Result, Ok, Err, IfOk, IfErr, IsUtf8, List, [], ◌∷◌, ◌++◌, length, refl, sym, ap, ◌∙◌, subst, arith}
-use Rattle.std.specs.Prelude.{is_some, not, filter_map, position}
+use Rattle.std.proofs.Common.{◌≡◌, ℕ, suc, ◌+◌, ◌<◌, ◌≤◌, min, nat_lt, Bool, true, false, if◌then◌else◌, Option, Some, None, inl, inr, Result, Err, List, [], ◌∷◌, ◌++◌, length, refl, sym, ap, ◌∙◌, arith}
+use Rattle.std.specs.Prelude.{is_some, not, filter_map}
 use Rattle.std.specs.List.{position_or_len}
 use Rattle.std.specs.Option.{option_to_list}
 use Rattle.std.specs.Str.{bytes_eq}
 use Rattle.std.proofs.lemmas.Bool.{cases_lt, lt-ltb, le-ltb}
 use Rattle.std.proofs.lemmas.List.Elements.{filter_map-append}
 use Rattle.serde_json.specs.Data.{array}
-use Rattle.serde_json.specs.View.{view, items_view}
+use Rattle.serde_json.specs.View.{items_view}
 use Rattle.serde_json.specs.declared.value.Value.{Value as Json}
 use Rattle.settle_script.specs.declared.value.Entry.{Entry}
 use Rattle.settle_script.specs.declared.outcome.Outcome.{Outcome}
 use Rattle.settle_script.specs.declared.event.Event.{Event}
 use Rattle.settle_script.specs.declared.event.Event.TheVariants.{Resolve, Reject, Work, Flush}
 use Rattle.settle_script.specs.declared.fault.ScriptFault.{ScriptFault}
-use Rattle.settle_script.specs.declared.fault.ScriptFault.TheVariants.{NotJson, TooManyEvents, NotEvent, DigestTooLong, BadValue, SettledTwice, OutOfMemory}
+use Rattle.settle_script.specs.declared.fault.ScriptFault.TheVariants.{TooManyEvents}
 use Rattle.settle_script.specs.Settlements.{entry_named, IsNew}
 use Rattle.settle_script.specs.Scripts.{outcomes_of, settlement_of, settled_name, is_name, first_settling, settled_before, line_count, script_of, events_of, Answers}
 

@@ -1,6 +1,6 @@
 -- The value that JSON is, and the first place at which JSON is no value (RFC 8259). A number is what `serde_json` reads:
 -- an unsigned or a negative whole number, or a float, which is any number that isn't whole or has more than 64 bits.
-use Rattle.std.specs.Prelude.{◌≡◌, ℕ, ◌+◌, ◌^◌, min, ℤ, pos, List, [], ◌∷◌, Bool, if◌then◌else◌, nat_lt, Option, Some, None, Result, Ok, Err}
+use Rattle.std.specs.Prelude.{◌≡◌, ℕ, ◌+◌, ◌^◌, min, ℤ, pos, List, [], ◌∷◌, if◌then◌else◌, nat_lt, Option, Some, None, Result, Ok, Err}
 use Rattle.serde_json.specs.Data.{Num, unsigned, negative, float, Data, null, boolean, number, string, array, object, Items, no_items, item, Members, no_members, member}
 use Rattle.settle_script.specs.declared.value.Value.{Value}
 use Rattle.settle_script.specs.declared.value.Value.TheVariants.{Null, Bool as Truth, Int, Text, List as Values, Record as Fields}

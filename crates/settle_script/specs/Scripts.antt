@@ -5,9 +5,9 @@
 --   {"flush": budget}                    at most so many bytes are flushed; 0 stands for no limit
 -- Names and digests are strings, counts and budgets whole numbers below 2^32. Lines are numbered from 0. Objects have
 -- their members in ascending order of names here, each name once.
-use Rattle.std.specs.Prelude.{◌≡◌, ℕ, ◌+◌, ◌^◌, min, List, [], ◌∷◌, ◌++◌, length, codes, ◌&&◌, if◌then◌else◌, nat_lt, nat_le, position, filter_map, IsUtf8, Bool, true, false, Option, Some, None, Result, Ok, Err}
+use Rattle.std.specs.Prelude.{◌≡◌, ℕ, ◌+◌, ◌^◌, min, List, [], ◌∷◌, ◌++◌, length, codes, ◌&&◌, if◌then◌else◌, nat_lt, position, filter_map, IsUtf8, Bool, false, Option, Some, None, Result, Ok, Err}
 use Rattle.std.specs.Str.{bytes_eq}
-use Rattle.serde_json.specs.Data.{Num, unsigned, negative, float, Data, null, boolean, number, string, array, object, Items, no_items, item, Members, no_members, member}
+use Rattle.serde_json.specs.Data.{unsigned, Data, number, string, array, object, Items, no_items, item, no_members, member}
 use Rattle.serde_json.specs.Read.{read}
 use Rattle.settle_script.specs.JsonValues.{value_of, first_bad}
 use Rattle.settle_script.specs.declared.value.Entry.{Entry}

@@ -1,5 +1,5 @@
 -- What settlements make known.
-use Rattle.std.specs.Prelude.{◌≡◌, ◌≢◌, ℕ, ◌+◌, List, [], ◌∷◌, take, map, find, if◌then◌else◌, is_some, Option, Some, None, option_map, AllPairs}
+use Rattle.std.specs.Prelude.{◌≡◌, ◌≢◌, ℕ, List, [], ◌∷◌, take, if◌then◌else◌, is_some, Option, Some, None, AllPairs}
 use Rattle.std.specs.Str.{bytes_eq}
 use Rattle.settle_script.specs.declared.value.Entry.{Entry}
 use Rattle.settle_script.specs.declared.outcome.Outcome.{Outcome}

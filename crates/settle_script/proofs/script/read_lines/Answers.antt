@@ -1,5 +1,3 @@
-use Rattle.std.proofs.Common.{◌≡◌, ◌<◌, ◌≤◌, length, arith, refl, ap, sym, ◌∙◌}
-use Rattle.std.proofs.lemmas.Bool.{lt-ltb, le-ltb}
 use Rattle.settle_script.proofs.ScriptsLemmas.{many_lines, few_lines}
 use Rattle.settle_script.proofs.script.read_lines.Goals as goal
 

@@ -1,4 +1,4 @@
-use Rattle.std.proofs.Common.{◌≡◌, ◌∙◌, ◌<◌, List, length, subst, sym}
+use Rattle.std.proofs.Common.{◌∙◌, ◌<◌, List, length, subst, sym}
 use Rattle.settle_script.specs.declared.value.Entry.{Entry}
 use Rattle.settle_script.specs.declared.outcome.Outcome.{Outcome}
 use Rattle.settle_script.proofs.SettlementsLemmas.{known_at, known_later, known_never, place_within}

@@ -1,4 +1,4 @@
-use Rattle.std.proofs.Common.{◌≡◌, ◌∙◌, ap, sym, subst, ◌++◌, List}
+use Rattle.std.proofs.Common.{◌∙◌, ap, sym, subst, ◌++◌, List}
 use Rattle.std.specs.Option.{option_copied}
 use Rattle.settle_script.specs.declared.value.Entry.{Entry}
 use Rattle.settle_script.specs.declared.outcome.Outcome.{Outcome}

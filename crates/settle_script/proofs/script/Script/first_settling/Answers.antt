@@ -1,5 +1,5 @@
-use Rattle.std.proofs.Common.{◌≡◌, ◌∙◌, ap, sym}
-use Rattle.settle_script.specs.Scripts.{outcomes_of, first_settling}
+use Rattle.std.proofs.Common.{◌∙◌, ap, sym}
+use Rattle.settle_script.specs.Scripts.{outcomes_of}
 use Rattle.settle_script.proofs.ScriptsLemmas.{never_settled}
 use Rattle.settle_script.proofs.script.Script.first_settling.Goals as goal
 

@@ -1,10 +1,10 @@
-use Rattle.std.proofs.Common.{◌≡◌, ◌∙◌, ◌++◌, ◌∷◌, [], ◌≤◌, Option, ap, sym, subst, List, length, arith}
+use Rattle.std.proofs.Common.{◌∙◌, ◌++◌, ◌∷◌, [], Option, ap, sym, subst, List, length, arith}
 use Rattle.std.specs.Option.{option_to_list}
 use Rattle.settle_script.specs.declared.value.Entry.{Entry}
 use Rattle.settle_script.specs.declared.outcome.Outcome.{Outcome}
 use Rattle.settle_script.specs.declared.event.Event.{Event}
 use Rattle.settle_script.specs.Settlements.{IsNew}
-use Rattle.settle_script.specs.Scripts.{outcomes_of, settlement_of}
+use Rattle.settle_script.specs.Scripts.{outcomes_of}
 use Rattle.settle_script.proofs.ScriptsLemmas.{settlement_new, outcomes_of-push, length-outcomes_of}
 use Rattle.settle_script.proofs.script.Script.push.Goals as goal
 
