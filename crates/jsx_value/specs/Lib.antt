@@ -4,3 +4,5 @@ pub mod PrintedAttributes
 pub mod Positions
 pub mod Spots
 pub mod Seen
+pub mod SeenScope
+pub mod SeenPlaces

@@ -1,5 +1,4 @@
 -- What the code's values stand for.
-use Rattle.std.specs.Prelude.{ℕ, List}
 use Rattle.settle_script.specs.declared.value.Value.{Value}
 use Rattle.settle_script.specs.declared.value.Value.TheVariants as v
 use Rattle.settle_script.specs.declared.value.Value.TheOpen.{Value-F}
