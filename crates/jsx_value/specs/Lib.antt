@@ -6,3 +6,4 @@ pub mod Spots
 pub mod Seen
 pub mod SeenScope
 pub mod SeenPlaces
+pub mod Layers

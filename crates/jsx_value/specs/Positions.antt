@@ -112,22 +112,26 @@ layer_value layer scope = v.Null
 abbrev pub node_value : Node → Names → Value
 node_value node scope = layer_value (out-Node node) scope
 
-abbrev pub Props : Type 0 → Type 0
-Props K = List (named.Entry (Openable K))
+abbrev pub Props : Type 0
+Props = List (named.Entry Node)
 
 abbrev pub prop_named : {A : Type 0} → List ℕ → List (named.Entry A) → Option A
 prop_named name [] = None
 prop_named name (prop ∷ later) = if bytes_eq name prop.name.text then Some prop.value else prop_named name later
 
+-- the attributes without what their nodes open to
+abbrev pub prop_node : {K : Type 0} → named.Entry (Openable K) → named.Entry Node
+prop_node prop = record { name = prop.name; value = prop.value.0 }
+
 -- the printed attributes of an element, in the source's order
-abbrev pub attributes_of : {K : Type 0} → List ℕ → Props K → Names → List Attr
+abbrev pub attributes_of : List ℕ → Props → Names → List Attr
 attributes_of prefix props scope =
-    filter_map (λ prop. printed_attribute prefix prop.name.text (node_value prop.value.0 scope)) props
+    filter_map (λ prop. printed_attribute prefix prop.name.text (node_value prop.value scope)) props
 
 -- the values that a component is called with, and the scope in which its statements begin: a property that isn't passed
 -- is Null
-abbrev pub args_of : {K : Type 0} → Props K → Names → Names
-args_of props scope = map (λ prop. record { name = prop.name.text; value = node_value prop.value.0 scope }) props
+abbrev pub args_of : Props → Names → Names
+args_of props scope = map (λ prop. record { name = prop.name.text; value = node_value prop.value scope }) props
 
 abbrev pub frame_of : List Name → Names → Names
 frame_of properties args = map (λ property. record { name = property.text; value = value_named property.text args }) properties
@@ -164,8 +168,8 @@ node_step kept prefix calls (Node-F.Array nodes) scope = opened (s.Array (map (�
 node_step kept prefix calls (Node-F.Map list item number body) scope =
     opened (map_shape (λ n x. kept.node body (item_scope item number scope n x)) (out-Value (value_of list scope)))
 node_step kept prefix calls (Node-F.Host name props kids) scope =
-    opened (s.Element name.text (attributes_of prefix props scope) (map (λ kid. kept.node kid scope) kids))
-node_step kept prefix calls (Node-F.Call name props) scope = calls name.text (args_of props scope)
+    opened (s.Element name.text (attributes_of prefix (map prop_node props) scope) (map (λ kid. kept.node kid scope) kids))
+node_step kept prefix calls (Node-F.Call name props) scope = calls name.text (args_of (map prop_node props) scope)
 node_step kept prefix calls (Node-F.Fragment kids) scope = open_children kept.node kids scope
 node_step kept prefix calls (Node-F.Suspense name props kids) scope =
     opened (s.Boundary (kept.children kids scope) (keep_fallback kept (prop_named (codes "fallback") props) scope))

@@ -5,7 +5,10 @@ use Rattle.jsx_value.specs.declared.spot.Spot.TheVariants as p
 use Rattle.jsx_value.specs.declared.spot.Kin.{Kin}
 use Rattle.jsx_value.specs.declared.shape.Shape.{Shape}
 use Rattle.jsx_value.specs.declared.shape.Shape.TheVariants as s
-use Rattle.jsx_value.specs.Positions.{Standing, root, one_node, many_nodes, one_value, Place}
+use Rattle.jsx_value.specs.Positions.{Standing, root, one_node, many_nodes, one_value, Place, Opened, opened}
+use Rattle.jsx_value.specs.Expressions.{Names}
+use Rattle.jsx_value.specs.declared.statements.Ended.{Ended}
+use Rattle.jsx_value.specs.declared.statements.Ended.TheVariants as e
 
 abbrev pub standing_of : Spot → Standing
 standing_of p.Root = root
@@ -24,3 +27,8 @@ place_shape (s.Array kids) = s.Array (map place_of kids)
 place_shape (s.Boundary content fallback) = s.Boundary (place_of content) (place_of fallback)
 place_shape (s.Wait resource) = s.Wait resource
 place_shape (s.Fail digest) = s.Fail digest
+
+-- what an end of statements opens to, where `go` is what follows them
+abbrev pub ended : Ended → (Names → Opened Place) → Opened Place
+ended (e.Goes scope) go = go scope
+ended (e.Stops shape) go = opened (place_shape shape)

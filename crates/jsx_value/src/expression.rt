@@ -55,7 +55,7 @@ fn equality(same: bool, negated: bool) -> bool
     if negated { !same } else { same }
 }
 
-fn named<'a>(scope: &Scope<'a>, name: &Text) -> Result<Val<'a>, OutOfMemory>
+pub(crate) fn named<'a>(scope: &Scope<'a>, name: &Text) -> Result<Val<'a>, OutOfMemory>
     ensures { IfOk result (λ value. value ≡ value_named name.now scope.now) }
 {
     match scope.get(name) {
