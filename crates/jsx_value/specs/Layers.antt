@@ -15,7 +15,7 @@ use Rattle.jsx_value.specs.declared.page.Page.{Page as CodePage}
 use Rattle.jsx_value.specs.declared.page.Layer.{Layer}
 use Rattle.jsx_value.specs.Values.{is_true}
 use Rattle.jsx_value.specs.Expressions.{Names, value_of, and_of, or_of, chain_of}
-use Rattle.jsx_value.specs.Positions.{Standing, one_node, many_nodes, one_value, Place, Opened, opened, Openable, text_shape, open_children, item_scope, map_shape, attributes_of, args_of, prop_named, values_in, Calls, Page, open_node, places}
+use Rattle.jsx_value.specs.Positions.{Standing, one_node, many_nodes, one_value, Place, Opened, opened, Openable, text_shape, item_scope, calls_of, map_shape, attributes_of, args_of, prop_named, values_in, Calls, Page, open_node, places}
 use Rattle.jsx_value.specs.SeenPlaces.{place_shape}
 
 abbrev pub node_place : Names → Node → Place
@@ -40,11 +40,10 @@ abbrev pub value_layer : Value → Opened Place
 value_layer x = opened (value_layer_shape (out-Value x))
 
 -- nodes beside each other
-abbrev pub openable : List ℕ → Calls Place → Node → Openable Place
-openable prefix calls x = (x, open_node places prefix calls x)
-
 abbrev pub children_layer : List ℕ → Calls Place → List Node → Names → Opened Place
-children_layer prefix calls xs scope = open_children places.node (map (openable prefix calls) xs) scope
+children_layer prefix calls [] scope = opened s.Nothing
+children_layer prefix calls (x ∷ []) scope = open_node places prefix calls x scope
+children_layer prefix calls (x ∷ y ∷ more) scope = opened (s.Array (map (node_place scope) (x ∷ y ∷ more)))
 
 abbrev pub fallback_place : Names → Option Node → Place
 fallback_place scope (Some x) = node_place scope x
@@ -81,3 +80,10 @@ page_of page = record {
 
 abbrev pub layer_seen : Layer → Opened Place
 layer_seen layer = record { calls = layer.calls; shape = place_shape layer.shape }
+
+abbrev pub calls_at : CodePage → List Component → Calls Place
+calls_at page before = calls_of places (known page.outcomes.now page.settled) page.prefix.now (reverse before)
+
+-- a node with what it opens to
+abbrev pub openable : List ℕ → Calls Place → Node → Openable Place
+openable prefix calls x = (x, open_node places prefix calls x)

@@ -7,3 +7,4 @@ pub mod Seen
 pub mod SeenScope
 pub mod SeenPlaces
 pub mod Layers
+pub mod Sizes

@@ -25,8 +25,8 @@ use Rattle.jsx_value.specs.declared.shape.Shape.{Shape}
 use Rattle.jsx_value.specs.declared.shape.Shape.TheVariants as s
 use Rattle.jsx_value.specs.declared.shape.Tree.{Tree, roll-Tree}
 use Rattle.jsx_value.specs.declared.shape.Tree.TheOpen.{Tree-F}
-use Rattle.jsx_value.specs.Values.{is_true, text_of}
-use Rattle.jsx_value.specs.Expressions.{Names, value_of, value_named, with_name, and_of, or_of, chain_of}
+use Rattle.jsx_value.specs.Values.{is_true, text_of, whole_or_null}
+use Rattle.jsx_value.specs.Expressions.{Names, value_of, value_named, with_name, and_of, or_of, chain_of, in_scope}
 use Rattle.jsx_value.specs.PrintedAttributes.{printed_attribute}
 
 -- what stands at a position
@@ -86,7 +86,7 @@ open_children keep (kid ∷ other ∷ more) scope = opened (s.Array (map (λ k. 
 
 -- `list.map((item, number) => body)`: a position for each item of a list, numbered from 0; nothing at other values
 abbrev pub with_number : Option Name → ℕ → Names → Names
-with_number (Some number) n scope = with_name number (v.Int (pos n)) scope
+with_number (Some number) n scope = with_name number (whole_or_null (pos n)) scope
 with_number None n scope = scope
 
 abbrev pub item_scope : Name → Option Name → Names → ℕ → Value → Names
@@ -149,7 +149,7 @@ abbrev pub open_or : {K : Type 0} → Kept K → Value → Opened K → Opened K
 open_or kept left last = if is_true left then open_value kept left else last
 
 abbrev pub values_in : List Expr → Names → List Value
-values_in exprs scope = map (λ expr. value_of expr scope) exprs
+values_in exprs scope = in_scope scope (map value_of exprs)
 
 -- what a component of this name opens to with these values
 abbrev pub Calls : Type 0 → Type 0
@@ -201,13 +201,17 @@ pub record Page : Type 0 where
   pub components : List Component
   pub prefix : List ℕ
 
--- The components from the latest down: each may call the ones before it.
+-- A component that is called: its statements run in the scope of its properties, and its node is opened, which may call
+-- the components before it.
+abbrev pub call_of : {K : Type 0} → Kept K → (List ℕ → Option Outcome) → List ℕ → Component → Calls K → Names → Opened K
+call_of kept known prefix component calls args =
+    called (run known component.stmts (open_node kept prefix calls component.result) (frame_of component.properties args))
+
+-- The components from the latest down.
 abbrev pub calls_of : {K : Type 0} → Kept K → (List ℕ → Option Outcome) → List ℕ → List Component → Calls K
 calls_of kept known prefix [] name args = opened s.Nothing
 calls_of kept known prefix (component ∷ before) name args =
-    if bytes_eq name component.name.text
-    then called (run known component.stmts (open_node kept prefix (calls_of kept known prefix before) component.result)
-    (frame_of component.properties args))
+    if bytes_eq name component.name.text then call_of kept known prefix component (calls_of kept known prefix before) args
     else calls_of kept known prefix before name args
 
 abbrev pub open_standing : {K : Type 0} → Kept K → List ℕ → Calls K → Standing → Names → Opened K

@@ -90,7 +90,11 @@ fn eval_sum<'a>(alloc: Global, terms: &'a [Expr], scope: &Scope<'a>) -> Result<V
 }
 
 #[cycle(eval)]
-fn eval_and<'a>(alloc: Global, parts: &'a [Expr], scope: &Scope<'a>) -> Result<Val<'a>, OutOfMemory>
+pub(crate) fn eval_and<'a>(
+    alloc: Global,
+    parts: &'a [Expr],
+    scope: &Scope<'a>,
+) -> Result<Val<'a>, OutOfMemory>
     ensures { IfOk result (λ value. value ≡ chain_of and_of (in_scope scope.now (map value_of parts.now))) }
 {
     let Some((first, others)) = parts.split_first() else {
@@ -106,7 +110,11 @@ fn eval_and<'a>(alloc: Global, parts: &'a [Expr], scope: &Scope<'a>) -> Result<V
 }
 
 #[cycle(eval)]
-fn eval_or<'a>(alloc: Global, parts: &'a [Expr], scope: &Scope<'a>) -> Result<Val<'a>, OutOfMemory>
+pub(crate) fn eval_or<'a>(
+    alloc: Global,
+    parts: &'a [Expr],
+    scope: &Scope<'a>,
+) -> Result<Val<'a>, OutOfMemory>
     ensures { IfOk result (λ value. value ≡ chain_of or_of (in_scope scope.now (map value_of parts.now))) }
 {
     let Some((first, others)) = parts.split_first() else {

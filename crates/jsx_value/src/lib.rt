@@ -2,8 +2,11 @@
 #![tactic(auto)]
 
 mod attributes;
+mod component;
 mod expression;
+mod open;
 mod page;
+mod place;
 mod scope;
 mod shape;
 mod spot;
@@ -11,6 +14,7 @@ mod statements;
 mod val;
 
 pub use expression::eval;
+pub use place::shape_at;
 pub use scope::Scope;
 pub use shape::{Shape, Tree};
 pub use spot::{Kin, Spot};

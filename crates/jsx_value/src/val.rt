@@ -248,7 +248,7 @@ impl<'a> Val<'a> {
 /// The most bytes of a text that `+` makes.
 const LONGEST_SUM: usize = 65_536;
 
-fn decimal(alloc: Global, number: i64) -> Result<Text, OutOfMemory>
+pub(crate) fn decimal(alloc: Global, number: i64) -> Result<Text, OutOfMemory>
     ensures { IfOk result (λ text. text ≡ signed_decimal number) }
 {
     text_of_string(format!(in alloc; "{number}")?)
