@@ -10,13 +10,16 @@ use Rattle.settle_script.specs.declared.value.Value.TheOpen.{Value-F}
 use Rattle.settle_script.specs.declared.value.Value.TheFolds.{para-Value, para-roll-Value, map-Value}
 use Rattle.jsx_syntax.specs.declared.name.Entry as named
 use Rattle.jsx_syntax.specs.declared.node.Node.{Node, out-Node, roll-Node}
-use Rattle.jsx_syntax.specs.declared.node.Node.TheViews.{roll-out-Node}
+use Rattle.jsx_syntax.specs.declared.node.Node.TheViews.{roll-out-Node, out-roll-Node}
+use Rattle.jsx_syntax.specs.declared.node.Node.TheVariants as n
+use Rattle.jsx_syntax.specs.declared.name.Name.{Name}
+use Rattle.jsx_syntax.specs.declared.expr.Expr.{Expr}
 use Rattle.jsx_syntax.specs.declared.node.Node.TheOpen.{Node-F}
 use Rattle.jsx_syntax.specs.declared.node.Node.TheFolds.{para-Node, para-roll-Node, map-Node}
 use Rattle.jsx_value.specs.declared.shape.Shape.TheVariants as s
 use Rattle.jsx_value.specs.Values.{is_true}
 use Rattle.jsx_value.specs.Expressions.{Names, value_of, and_of, or_of, chain_of}
-use Rattle.jsx_value.specs.Positions.{Place, Opened, opened, Openable, value_shape, open_value, open_node, node_step, Calls, places, prop_node, prop_named, keep_fallback, open_children, values_in, attributes_of, args_of}
+use Rattle.jsx_value.specs.Positions.{Place, Opened, opened, Openable, value_shape, open_value, open_node, node_step, Calls, places, prop_node, prop_named, keep_fallback, open_children, values_in, attributes_of, args_of, map_shape, item_scope}
 use Rattle.jsx_value.specs.Layers.{value_layer, value_layer_shape, node_layer, node_place, nodes_place, children_layer, fallback_place, openable}
 
 -- what a kid opens to beside it is left out again
@@ -97,3 +100,14 @@ node-opens prefix calls x scope =
     ap (λ (n : Node). open_node places prefix calls n scope) (sym (roll-out-Node x))
     ∙ ap (λ (f : Names → Opened Place). f scope) (para-roll-Node (Names → Opened Place) (node_step places prefix calls) (out-Node x))
     ∙ node_cases prefix calls (out-Node x) scope
+
+-- A map is one layer of a node.
+out-Map : (list : Expr) (item : Name) (number_ : Option Name) (body : Node)
+    → out-Node (n.Map list item number_ body) ≡ Node-F.Map list item number_ body
+out-Map list item number_ body = ap out-Node (sym (n.rolls-Map list item number_ body)) ∙ out-roll-Node (Node-F.Map list item number_ body)
+
+pub node_layer-Map : (prefix : List ℕ) (calls : Calls Place) (x : Node) (list : Expr) (item : Name) (number_ : Option Name) (body : Node) (scope : Names)
+    → x ≡ n.Map list item number_ body
+    → opened (map_shape (λ k v. node_place (item_scope item number_ scope k v) body) (out-Value (value_of list scope))) ≡ node_layer prefix calls (out-Node x) scope
+node_layer-Map prefix calls x list item number_ body scope is =
+    ap (λ (l : Node-F Node). node_layer prefix calls l scope) (sym (ap out-Node is ∙ out-Map list item number_ body))

@@ -19,3 +19,6 @@ pub use scope::Scope;
 pub use shape::{Shape, Tree};
 pub use spot::{Kin, Spot};
 pub use val::Val;
+
+#[cfg(test)]
+mod tests;
