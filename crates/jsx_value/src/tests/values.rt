@@ -158,7 +158,8 @@ fn long_sums(rt: HostRuntime) -> Result<(), Fail> {
     let two = Text::fixed("bc");
     let most = Val::written(&long).sum(alloc, &Val::written(&one))?;
     assert_eq!(rt; most.text(alloc)?.as_bytes().len(), 65_536);
-    let again = most.share()?.sum(alloc, &Val::written(&Text::fixed("")))?;
+    let empty = Text::fixed("");
+    let again = most.share()?.sum(alloc, &Val::written(&empty))?;
     assert!(rt; again.is_same(&most), "the empty text");
     let over = Val::written(&long).sum(alloc, &Val::written(&two))?;
     assert!(rt; over.is_same(&Val::null()), "65,537 bytes");
