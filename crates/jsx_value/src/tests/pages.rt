@@ -1,10 +1,10 @@
 //! Expressions in a scope, and the shapes of small pages.
 
 use super::{name, pair, text};
-use crate::{Kin, Scope, Shape, Spot, Val, eval, shape_at};
+use crate::{Kin, Scope, Shape, Spot, eval, shape_at};
 use fizz_text::Text;
 use jsx_syntax::{Component, Entry, Expr, File, Node, Stmt};
-use settle_script::read_script;
+use settle_script::{Outcomes, read_script};
 use sqlite_items::{Boxed, Items};
 use std::alloc::Global;
 use std::test::Fail;
@@ -43,17 +43,19 @@ fn word_of(alloc: Global, script: &str, settled: u32) -> Result<Text, Fail> {
     let script = read_script(alloc, script.as_bytes())?;
     let file = page(alloc)?;
     let prefix = Text::fixed("");
-    let scope: Scope<'_> = Scope::empty(alloc);
-    let shape = shape_at(
-        alloc,
-        &file,
-        script.outcomes(),
-        settled,
-        &prefix,
-        Spot::Root,
-        scope,
-    )?;
-    Ok(shown(alloc, &shape)?)
+    word_at_root(alloc, &file, script.outcomes(), settled, &prefix)
+}
+
+fn word_at_root<'a>(
+    alloc: Global,
+    file: &'a File,
+    outcomes: &'a Outcomes,
+    settled: u32,
+    prefix: &'a Text,
+) -> Result<Text, Fail> {
+    let scope: Scope<'a> = Scope::empty(alloc);
+    let shape = shape_at(alloc, file, outcomes, settled, prefix, Spot::Root, scope)?;
+    shown(alloc, &shape)
 }
 
 fn shown(alloc: Global, shape: &Shape<Kin<'_>>) -> Result<Text, Fail> {
@@ -109,9 +111,14 @@ fn an_expression(rt: HostRuntime) -> Result<(), Fail> {
         yes: Boxed::new(alloc, Expr::Sum(pair(alloc, text("b"), Expr::Int(1))?))?,
         no: Boxed::new(alloc, Expr::Int(2))?,
     };
-    let scope: Scope<'_> = Scope::empty(alloc);
-    let value = eval(alloc, &choice, &scope.copy(alloc)?)?;
-    assert_eq!(rt; value.text(alloc)?.as_str(), "b1");
-    assert!(rt; !value.is_same(&Val::null()), "a text");
+    let text = text_of(alloc, &choice)?;
+    assert_eq!(rt; text.as_str(), "b1");
     Ok(())
+}
+
+fn text_of<'a>(alloc: Global, expr: &'a Expr) -> Result<Text, Fail> {
+    let scope: Scope<'a> = Scope::empty(alloc);
+    let copy = scope.copy(alloc)?;
+    let value = eval(alloc, expr, &copy)?;
+    Ok(value.text(alloc)?)
 }
