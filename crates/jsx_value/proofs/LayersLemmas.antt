@@ -1,21 +1,20 @@
 -- The rules of positions, one layer at a time, are the rules.
-use Rattle.std.proofs.Common.{◌≡◌, ℕ, Bool, true, false, if◌then◌else◌, Option, Some, None, List, [], ◌∷◌, map, refl, sym, ap, ◌∙◌, codes}
+use Rattle.std.proofs.Common.{◌≡◌, ℕ, Bool, true, false, if◌then◌else◌, Option, Some, List, [], ◌∷◌, map, refl, sym, ap, ◌∙◌, codes}
 use Rattle.std.proofs.lemmas.Simd.{map-map}
 use Rattle.std.proofs.lemmas.List.{map-id}
-use Rattle.std.specs.Prelude.{option_map}
 use Rattle.std.specs.Str.{bytes_eq}
-use Rattle.settle_script.specs.declared.value.Value.{Value, out-Value, roll-Value}
+use Rattle.settle_script.specs.declared.value.Value.{Value, out-Value}
 use Rattle.settle_script.specs.declared.value.Value.TheViews.{roll-out-Value}
 use Rattle.settle_script.specs.declared.value.Value.TheOpen.{Value-F}
-use Rattle.settle_script.specs.declared.value.Value.TheFolds.{para-Value, para-roll-Value, map-Value}
+use Rattle.settle_script.specs.declared.value.Value.TheFolds.{para-roll-Value, map-Value}
 use Rattle.jsx_syntax.specs.declared.name.Entry as named
-use Rattle.jsx_syntax.specs.declared.node.Node.{Node, out-Node, roll-Node}
+use Rattle.jsx_syntax.specs.declared.node.Node.{Node, out-Node}
 use Rattle.jsx_syntax.specs.declared.node.Node.TheViews.{roll-out-Node, out-roll-Node}
 use Rattle.jsx_syntax.specs.declared.node.Node.TheVariants as n
 use Rattle.jsx_syntax.specs.declared.name.Name.{Name}
 use Rattle.jsx_syntax.specs.declared.expr.Expr.{Expr}
 use Rattle.jsx_syntax.specs.declared.node.Node.TheOpen.{Node-F}
-use Rattle.jsx_syntax.specs.declared.node.Node.TheFolds.{para-Node, para-roll-Node, map-Node}
+use Rattle.jsx_syntax.specs.declared.node.Node.TheFolds.{para-roll-Node, map-Node}
 use Rattle.jsx_value.specs.declared.shape.Shape.TheVariants as s
 use Rattle.jsx_value.specs.Values.{is_true}
 use Rattle.jsx_value.specs.Expressions.{Names, value_of, and_of, or_of, chain_of}

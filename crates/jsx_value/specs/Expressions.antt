@@ -1,5 +1,5 @@
 -- The value of an expression, by recursion on the expression.
-use Rattle.std.specs.Prelude.{ℕ, List, [], ◌∷◌, ◌++◌, map, Bool, not, if◌then◌else◌, unwrap_or, fold}
+use Rattle.std.specs.Prelude.{ℕ, List, [], ◌∷◌, ◌++◌, map, not, if◌then◌else◌, unwrap_or, fold}
 use Rattle.settle_script.specs.declared.value.Entry.{Entry}
 use Rattle.settle_script.specs.declared.value.Value.{Value}
 use Rattle.settle_script.specs.declared.value.Value.TheVariants as v

@@ -1,10 +1,8 @@
 -- The rules of positions, one layer at a time, over places: for private functions.
-use Rattle.std.specs.Prelude.{ℕ, ◌+◌, List, [], ◌∷◌, map, reverse, codes, Bool, if◌then◌else◌, Option, Some, None}
+use Rattle.std.specs.Prelude.{ℕ, List, [], ◌∷◌, map, reverse, codes, if◌then◌else◌, Option, Some, None}
 use Rattle.std.specs.Fmt.{signed_decimal}
-use Rattle.settle_script.specs.declared.value.Entry.{Entry}
 use Rattle.settle_script.specs.declared.value.Value.{Value, out-Value}
 use Rattle.settle_script.specs.declared.value.Value.TheOpen.{Value-F}
-use Rattle.settle_script.specs.declared.outcome.Outcome.{Outcome}
 use Rattle.settle_script.specs.Settlements.{known}
 use Rattle.jsx_syntax.specs.declared.node.Node.{Node}
 use Rattle.jsx_syntax.specs.declared.node.Node.TheOpen.{Node-F}
@@ -15,7 +13,7 @@ use Rattle.jsx_value.specs.declared.page.Page.{Page as CodePage}
 use Rattle.jsx_value.specs.declared.page.Layer.{Layer}
 use Rattle.jsx_value.specs.Values.{is_true}
 use Rattle.jsx_value.specs.Expressions.{Names, value_of, and_of, or_of, chain_of}
-use Rattle.jsx_value.specs.Positions.{Standing, one_node, many_nodes, one_value, Place, Opened, opened, Openable, text_shape, item_scope, calls_of, map_shape, attributes_of, args_of, prop_named, values_in, Calls, Page, open_node, places}
+use Rattle.jsx_value.specs.Positions.{one_node, many_nodes, one_value, Place, Opened, opened, Openable, text_shape, item_scope, calls_of, map_shape, attributes_of, args_of, prop_named, values_in, Calls, Page, open_node, places}
 use Rattle.jsx_value.specs.SeenPlaces.{place_shape}
 
 abbrev pub node_place : Names → Node → Place

@@ -1,17 +1,15 @@
 -- The positions of a page: what stands at each, and the shape that it has once all is opened that needs no step. A
 -- position is the call of `App`, a node of the source, nodes beside each other, or a value, in the scope of its names.
-use Rattle.std.specs.Prelude.{ℕ, ◌+◌, pos, List, [], ◌∷◌, map, length, nat_lt, codes, Bool, if◌then◌else◌, Option, Some, None, unwrap_or, filter_map}
+use Rattle.std.specs.Prelude.{ℕ, ◌+◌, pos, List, [], ◌∷◌, map, codes, if◌then◌else◌, Option, Some, None, filter_map}
 use Rattle.std.specs.Fmt.{signed_decimal}
 use Rattle.std.specs.Str.{bytes_eq}
 use Rattle.fizz_text.specs.declared.attribute.Attr.{Attr}
-use Rattle.settle_script.specs.declared.value.Entry.{Entry}
 use Rattle.settle_script.specs.declared.value.Value.{Value, out-Value}
 use Rattle.settle_script.specs.declared.value.Value.TheVariants as v
 use Rattle.settle_script.specs.declared.value.Value.TheOpen.{Value-F}
 use Rattle.settle_script.specs.declared.value.Value.TheFolds.{para-Value}
 use Rattle.settle_script.specs.declared.outcome.Outcome.{Outcome}
 use Rattle.settle_script.specs.declared.outcome.Outcome.TheVariants.{Resolved, Rejected}
-use Rattle.settle_script.specs.Settlements.{entry_named}
 use Rattle.jsx_syntax.specs.declared.name.Name.{Name}
 use Rattle.jsx_syntax.specs.declared.name.Entry as named
 use Rattle.jsx_syntax.specs.declared.expr.Expr.{Expr}

@@ -1,6 +1,6 @@
 -- The attributes of an element of HTML as they are printed, before their values are escaped. How the value of each kind
 -- of attribute is printed is after React's server renderer.
-use Rattle.std.specs.Prelude.{ℕ, List, [], ◌∷◌, codes, Bool, if◌then◌else◌, Option, Some, None, option_map, option_and_then, filter_map}
+use Rattle.std.specs.Prelude.{ℕ, List, [], codes, if◌then◌else◌, Option, Some, None, option_map, option_and_then}
 use Rattle.std.specs.Fmt.{signed_decimal}
 use Rattle.fizz_text.specs.declared.attribute.Attr.{Attr}
 use Rattle.html_names.specs.declared.attributes.AttrKind.{AttrKind}

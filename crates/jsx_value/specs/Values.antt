@@ -1,11 +1,10 @@
 -- Values: truth, text, members, `+` and `===`. They are after ECMAScript's, over fewer kinds: Null is its null and its
 -- undefined, a number is whole and an i64, and no operation fails.
-use Rattle.std.specs.Prelude.{ℕ, ◌^◌, ◌-◌, ℤ, pos, negsuc, ◌+ℤ◌, int_le, int_lt, ◌&&◌, List, [], ◌∷◌, ◌++◌, length, codes, Bool, true, false, not, if◌then◌else◌, nat_lt, nat_le, unwrap_or, fold}
+use Rattle.std.specs.Prelude.{ℕ, ◌^◌, ◌-◌, ℤ, pos, negsuc, ◌+ℤ◌, int_le, int_lt, ◌&&◌, List, [], ◌++◌, length, codes, Bool, true, false, not, if◌then◌else◌, nat_lt, nat_le, unwrap_or}
 use Rattle.std.specs.Ordering.{int_eq}
 use Rattle.std.specs.Fmt.{signed_decimal}
 use Rattle.std.specs.Bool.{beq}
 use Rattle.std.specs.Str.{bytes_eq}
-use Rattle.settle_script.specs.declared.value.Entry.{Entry}
 use Rattle.settle_script.specs.declared.value.Value.{Value, out-Value}
 use Rattle.settle_script.specs.declared.value.Value.TheVariants as v
 use Rattle.settle_script.specs.declared.value.Value.TheOpen.{Value-F}

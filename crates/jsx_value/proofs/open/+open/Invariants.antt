@@ -1,4 +1,4 @@
-use Rattle.std.proofs.Common.{ℕ, ◌+◌, ◌*◌}
+use Rattle.std.proofs.Common.{◌+◌, ◌*◌}
 use Rattle.jsx_value.specs.Sizes.{total_size, node_size}
 use Rattle.jsx_value.proofs.open.+open.Given as goal
 

@@ -1,5 +1,4 @@
 use Rattle.std.proofs.Common.{◌≡◌, IfOk, subst, sym, ap, ◌∙◌}
-use Rattle.settle_script.specs.declared.value.Value.{Value}
 use Rattle.jsx_value.specs.Positions.{Opened, Place}
 use Rattle.jsx_value.specs.Layers.{layer_seen, value_layer}
 use Rattle.jsx_value.proofs.LayersLemmas.{value-opens}

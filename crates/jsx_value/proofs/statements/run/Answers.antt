@@ -1,4 +1,4 @@
-use Rattle.std.proofs.Common.{◌≡◌, ◌+◌, ◌∙◌, drop, sym, ap}
+use Rattle.std.proofs.Common.{◌+◌, ◌∙◌, drop, sym, ap}
 use Rattle.settle_script.specs.Settlements.{known}
 use Rattle.jsx_value.specs.Positions.{run}
 use Rattle.jsx_value.specs.SeenPlaces.{ended}

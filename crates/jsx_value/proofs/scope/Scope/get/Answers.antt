@@ -1,4 +1,4 @@
-use Rattle.std.proofs.Common.{◌≡◌, ◌∙◌, ap}
+use Rattle.std.proofs.Common.{◌∙◌, ap}
 use Rattle.jsx_value.specs.SeenScope.{entries_of, frame_entries}
 use Rattle.settle_script.specs.Settlements.{entry_named}
 use Rattle.jsx_value.proofs.EntriesLemmas.{found_first, found_second}
