@@ -28,7 +28,7 @@ escaped_no_tag : (text more : List ℕ) → text ≢ [] → begins_tag (escape_o
 escaped_no_tag [] more some = absurd (some refl)
 escaped_no_tag (b ∷ bs) more some = ap begins_tag (append_assoc (spelling_of b) (escape_of bs) more) ∙ spelled_no_tag b (escape_of bs ++ more)
 
-text_no_tag : (t : Token) (more : List ℕ) → IsToken t → is_text t ≡ true → begins_tag (spelling t ++ more) ≡ false
+pub text_no_tag : (t : Token) (more : List ℕ) → IsToken t → is_text t ≡ true → begins_tag (spelling t ++ more) ≡ false
 text_no_tag (tok.Start name attributes from) more h t = absurd (nothing_true t)
 text_no_tag (tok.End name from) more h t = absurd (nothing_true t)
 text_no_tag (tok.Void name attributes from) more h t = absurd (nothing_true t)

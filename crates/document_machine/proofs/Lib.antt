@@ -22,8 +22,8 @@ pub mod Refusals
 pub mod JoinedRuns
 pub mod FirstFaults
 pub mod Endings
-pub mod Frames
 pub mod Fronts
-pub mod Nodes
-pub mod Placed
 pub mod Plain
+pub mod RunsLemmas
+pub mod SeenLemmas
+pub mod WalksLemmas

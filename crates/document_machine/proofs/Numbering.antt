@@ -48,7 +48,7 @@ numbered_content id node dom d = numbered_fewer dom _ d (λ j. omega (arith, dre
 pub numbered_digest : (id : ℕ) (digest : List ℕ) (dom : DomState) → IsNumbered dom → IsNumbered (with_digest_at id digest dom)
 numbered_digest id digest dom d = numbered_fewer dom _ d (λ j. omega (arith, dressed_times j id (digest_set digest) dom.forest))
 
-joined_times : (j : ℕ) (a b : Forest) → times j (joined a b) ≡ times j a + times j b
+pub joined_times : (j : ℕ) (a b : Forest) → times j (joined a b) ≡ times j a + times j b
 joined_times j empty b = omega arith
 joined_times j (tree i content kids later) b = omega (arith, joined_times j later b)
 

@@ -18,3 +18,4 @@ pub mod Taking
 pub mod Ready
 pub mod EditFailures
 pub mod Examples
+pub mod Knowing

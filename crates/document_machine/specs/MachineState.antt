@@ -88,13 +88,13 @@ IsMet NoMemory met = met ≡ Some OutOfMemory
 pub record Sees (machine : MachineState) (bytes : List ℕ) (view : Seen) : Type 0 where
   pub built : PageState
   pub run : Runs machine.prefix at_first bytes built
-  pub is : seen view.items ≡ view_of machine.prefix built.dom.forest
+  pub is : seen view.parts ≡ view_of machine.prefix built.dom.forest
 
 -- The view is that of the whole document.
 pub record SeesWhole (machine : MachineState) (bytes : List ℕ) (view : Seen) : Type 0 where
   pub built : PageState
   pub run : RunsWhole machine.prefix at_first bytes built
-  pub is : seen view.items ≡ view_of machine.prefix built.dom.forest
+  pub is : seen view.parts ≡ view_of machine.prefix built.dom.forest
 
 -- Why a machine that goes on does not finish: the bytes end too early.
 abbrev pub FinishRefusal : MachineState → List ℕ → MachineFault → Type 0

@@ -1,27 +1,34 @@
--- A view as its tree.
-use Rattle.std.specs.Prelude.{List, [], ◌∷◌, map}
-use Rattle.document_machine.specs.declared.view.Item.{Item}
-use Rattle.document_machine.specs.declared.view.Item.TheOpen.{Item-F, Element, Text, Boundary}
-use Rattle.document_machine.specs.declared.view.Item.TheFolds.{fold-Item}
-use Rattle.document_machine.specs.Views.{View, end, text, element, boundary}
+-- A view by its parts, and the parts of a view.
+use Rattle.std.specs.Prelude.{ℕ, List, [], ◌∷◌}
+use Rattle.document_machine.specs.declared.view.ViewPart.{ViewPart}
+use Rattle.document_machine.specs.declared.view.ViewPart.TheVariants.{Element, Text, Boundary, EndOfElement, EndOfBoundary}
+use Rattle.document_machine.specs.Views.{View, end, text, element, boundary, Levels, ended, with_first}
 
--- Items before what follows them.
-abbrev pub all_before : List (View → View) → View → View
-all_before [] later = later
-all_before (first ∷ rest) later = first (all_before rest later)
+-- What follows an end; nothing where none comes.
+abbrev pub levels_after : List View → Levels
+levels_after [] = record { first = end; rest = [] }
+levels_after (next ∷ rest) = record { first = next; rest = rest }
 
--- One item before what follows it, with the items in it placed.
-abbrev pub placed_step : Item-F (View → View) → View → View
-placed_step (Element name attributes items) later = element name attributes (all_before items end) later
-placed_step (Text t) later = text t later
-placed_step (Boundary kind digest items) later = boundary kind digest (all_before items end) later
+-- Siblings up to the first end of what was begun before them, then those up to the next one, and so on.
+abbrev pub levels_of_parts : List ViewPart → Levels
+levels_of_parts [] = record { first = end; rest = [] }
+levels_of_parts (Element name attributes ∷ parts) =
+    let inner = levels_of_parts parts in with_first (element name attributes inner.first) (levels_after inner.rest)
+levels_of_parts (Text t ∷ parts) = with_first (text t) (levels_of_parts parts)
+levels_of_parts (Boundary kind digest ∷ parts) =
+    let inner = levels_of_parts parts in with_first (boundary kind digest inner.first) (levels_after inner.rest)
+levels_of_parts (EndOfElement ∷ parts) = ended (levels_of_parts parts)
+levels_of_parts (EndOfBoundary ∷ parts) = ended (levels_of_parts parts)
 
-abbrev pub placed : Item → View → View
-placed = fold-Item (View → View) placed_step
+-- The view whose parts these are.
+abbrev pub seen : List ViewPart → View
+seen parts = (levels_of_parts parts).first
 
--- The items of a view, before others.
-abbrev pub seen_before : List Item → View → View
-seen_before items later = all_before (map placed items) later
-
-abbrev pub seen : List Item → View
-seen items = seen_before items end
+-- The parts of a view, before others.
+abbrev pub view_parts : View → List ViewPart → List ViewPart
+view_parts end more = more
+view_parts (text t later) more = Text t ∷ view_parts later more
+view_parts (element name attributes items later) more =
+    Element name attributes ∷ view_parts items (EndOfElement ∷ view_parts later more)
+view_parts (boundary kind digest items later) more =
+    Boundary kind digest ∷ view_parts items (EndOfBoundary ∷ view_parts later more)

@@ -153,7 +153,7 @@ fn text_so_far(reader: &Reader) -> Result<Option<Text>, OutOfMemory>
 /// The view of a page with one text more.
 fn view_with(alloc: Global, prefix: &Text, page: &Page, text: Text) -> Result<View, OutOfMemory>
     requires { IsOpenDocument (ids_of page.now.opened) page.now.dom }
-    ensures { IfOk result (λ view. seen view.items ≡ view_of prefix.now (with_node (TextNode text) page.now).dom.forest) }
+    ensures { IfOk result (λ view. seen view.parts ≡ view_of prefix.now (with_node (TextNode text) page.now).dom.forest) }
 {
     let mut dom = page.dom().copy()?;
     dom.append(page.innermost(), NewNode::Text(text))?;

@@ -1,37 +1,45 @@
 //! The settled document of a view, and the counts of its boundaries.
 
-ghost use Rattle.std.specs.Prelude.{◌≡◌, ◌<◌, [], ◌∷◌, IfOk, OnOk};
-ghost use Rattle.document_machine.specs.declared.settling.Begun.TheVariants.{Element};
-ghost use Rattle.document_machine.specs.Settled.{nodes_of};
-ghost use Rattle.document_machine.specs.Settling.{added, closed, completed, one_counted, turns};
-ghost use Rattle.document_machine.specs.Shown.{seen};
+ghost use Rattle.std.specs.Prelude.{◌≡◌, ◌++◌, [], IfOk, OnOk};
+ghost use Rattle.dom_forest.specs.Documents.{nodes_in};
+ghost use Rattle.document_machine.specs.Settled.{counts_of, nodes_of};
+ghost use Rattle.document_machine.specs.Settling.{counts_with, counts_with_one, doc_part, doc_parts};
+ghost use Rattle.document_machine.specs.Shown.{seen, view_parts};
 
 use crate::status::BoundaryStatus;
-use crate::view::{Counts, Item};
-use dom_forest::DocNode;
-use fizz_text::{Attributes, OutOfMemory, Text};
+use crate::view::{Counts, ViewPart};
+use dom_forest::{Doc, DocPart};
+use fizz_text::OutOfMemory;
 use sqlite_items::Items;
 use std::alloc::Global;
-use std::mem;
 
-/// Adds the boundaries among the items, nested ones included.
-pub(crate) fn add_counts(counts: &mut Counts, items: &[Item])
-    ensures { counts.new ≡ added (seen items.now) counts.old }
+/// The boundaries of a view by its parts, nested ones included.
+pub(crate) fn counts_of(parts: &[ViewPart]) -> Counts
+    requires { parts.now ≡ view_parts (seen parts.now) [] }
+    ensures { result ≡ counts_of (seen parts.now) }
 {
-    for item in items {
-        match item {
-            Item::Element { items, .. } => add_counts(counts, items.as_slice()),
-            Item::Text(_) => {}
-            Item::Boundary { kind, items, .. } => {
-                add_boundary(counts, *kind);
-                add_counts(counts, items.as_slice());
-            }
+    let mut counts = Counts {
+        boundaries: 0,
+        failed: 0,
+        pending: 0,
+    };
+    add_counts(&mut counts, parts);
+    counts
+}
+
+/// Adds the boundaries among parts.
+fn add_counts(counts: &mut Counts, parts: &[ViewPart])
+    ensures { counts.new ≡ counts_with parts.now counts.old }
+{
+    for part in parts {
+        if let ViewPart::Boundary { kind, .. } = part {
+            add_boundary(counts, *kind);
         }
     }
 }
 
 fn add_boundary(counts: &mut Counts, kind: BoundaryStatus)
-    ensures { counts.new ≡ one_counted kind counts.old }
+    ensures { counts.new ≡ counts_with_one kind counts.old }
 {
     counts.boundaries = counts.boundaries.saturating_add(1);
     match kind {
@@ -41,119 +49,38 @@ fn add_boundary(counts: &mut Counts, kind: BoundaryStatus)
     }
 }
 
-/// What was begun and is not closed.
-#[derive(Drop)]
-enum Begun {
-    Element {
-        name: Text,
-        attributes: Attributes,
-        /// The nodes before it among its siblings.
-        before: Items<DocNode>,
-    },
-    /// Its nodes stand among those before it.
-    Boundary,
-}
-
-/// What was begun, with the items after it.
-#[derive(Drop)]
-struct Frame<'a> {
-    begun: Begun,
-    later: &'a [Item],
-}
-
-/// The elements and texts of items, those of each boundary in its place. What is begun is kept in a list, so deep items
-/// take memory and no stack.
-pub(crate) fn nodes_of(alloc: Global, items: &[Item]) -> Result<Items<DocNode>, OutOfMemory>
-    ensures { IfOk result (λ nodes. nodes ≡ nodes_of (seen items.now)) }
+/// The elements and texts of a view by its parts, those of each boundary in its place.
+pub(crate) fn doc_of(alloc: Global, parts: &[ViewPart]) -> Result<Doc, OutOfMemory>
+    requires { parts.now ≡ view_parts (seen parts.now) [] }
+    ensures { IfOk result (λ doc. nodes_in doc.parts ≡ nodes_of (seen parts.now)) }
 {
-    let mut nodes = Items::new(alloc);
-    let mut frames: Vec<Frame<'_>> = Vec::new(alloc);
-    let mut rest = items;
-    'items: loop {
-        match rest.split_first() {
-            Some((item, later)) => rest = pass(alloc, &mut frames, &mut nodes, item, later)?,
-            None => match frames.pop() {
-                Some(frame) => {
-                    rest = frame.later;
-                    close(&mut nodes, frame.begun)?;
-                }
-                None => return Ok(nodes),
-            },
-        }
+    let parts = kept_parts(alloc, parts)?;
+    Ok(Doc { parts })
+}
+
+/// The parts without those of boundaries.
+fn kept_parts(alloc: Global, parts: &[ViewPart]) -> Result<Items<DocPart>, OutOfMemory>
+    ensures { IfOk result (λ kept. kept ≡ doc_parts parts.now) }
+{
+    let mut kept = Items::new(alloc);
+    for part in parts {
+        keep_part(alloc, &mut kept, part)?;
     }
+    Ok(kept)
 }
 
-/// Goes past an item, or into it, and gives the items that are next.
-fn pass<'a>(
-    alloc: Global,
-    frames: &mut Vec<Frame<'a>>,
-    nodes: &mut Items<DocNode>,
-    item: &'a Item,
-    later: &'a [Item],
-) -> Result<&'a [Item], OutOfMemory>
-    ensures nodes { IfOk result (λ rest. completed frames.new.items nodes.new rest.now ≡ completed frames.old.items nodes.old (item.now ∷ later.now)) }
-    ensures less { IfOk result (λ rest. turns frames.new.items rest.now < turns frames.old.items (item.now ∷ later.now)) }
+fn keep_part(alloc: Global, kept: &mut Items<DocPart>, part: &ViewPart) -> Result<(), OutOfMemory>
+    ensures { OnOk result (kept.new ≡ kept.old ++ doc_part part.now) }
 {
-    match item {
-        Item::Element {
-            name,
-            attributes,
-            items,
-        } => {
-            let begun = begin_element(alloc, nodes, name, attributes)?;
-            frames.push(Frame { begun, later })?;
-            Ok(items.as_slice())
+    match part {
+        ViewPart::Element { name, attributes } => {
+            let name = name.copy(alloc)?;
+            let attributes = attributes.copy(alloc)?;
+            kept.push(DocPart::Element { name, attributes })?;
         }
-        Item::Text(text) => {
-            nodes.push(DocNode::Text(text.copy(alloc)?))?;
-            Ok(later)
-        }
-        Item::Boundary { items, .. } => {
-            frames.push(Frame {
-                begun: Begun::Boundary,
-                later,
-            })?;
-            Ok(items.as_slice())
-        }
-    }
-}
-
-fn begin_element(
-    alloc: Global,
-    nodes: &mut Items<DocNode>,
-    name: &Text,
-    attributes: &Attributes,
-) -> Result<Begun, OutOfMemory>
-    ensures begun { IfOk result (λ begun. begun ≡ Element name.now attributes.now nodes.old) }
-    ensures nodes { OnOk result (nodes.new ≡ []) }
-{
-    let name = name.copy(alloc)?;
-    let attributes = attributes.copy(alloc)?;
-    Ok(Begun::Element {
-        name,
-        attributes,
-        before: mem::replace(nodes, Items::new(alloc)),
-    })
-}
-
-/// Closes what was begun.
-fn close(nodes: &mut Items<DocNode>, begun: Begun) -> Result<(), OutOfMemory>
-    ensures { OnOk result (nodes.new ≡ closed begun nodes.old) }
-{
-    match begun {
-        Begun::Element {
-            name,
-            attributes,
-            before,
-        } => {
-            let kids = mem::replace(nodes, before);
-            nodes.push(DocNode::Element {
-                name,
-                attributes,
-                kids,
-            })?;
-        }
-        Begun::Boundary => {}
+        ViewPart::Text(text) => kept.push(DocPart::Text(text.copy(alloc)?))?,
+        ViewPart::EndOfElement => kept.push(DocPart::End)?,
+        ViewPart::Boundary { .. } | ViewPart::EndOfBoundary => {}
     }
     Ok(())
 }

@@ -1,67 +1,59 @@
 //! What is seen of a document.
 
-ghost use Rattle.std.specs.Prelude.{◌≡◌, IfErr, IfOk, Some};
+ghost use Rattle.std.specs.Prelude.{◌≡◌, [], IfErr, IfOk, Some};
+ghost use Rattle.dom_forest.specs.Documents.{nodes_in};
 ghost use Rattle.document_machine.specs.declared.view.SettledRefused.TheVariants.{OutOfMemory as Memory};
 ghost use Rattle.document_machine.specs.Settled.{IsSettledCause, counts_of, settled_of};
-ghost use Rattle.document_machine.specs.Shown.{seen};
+ghost use Rattle.document_machine.specs.Shown.{seen, view_parts};
 
-use crate::settling::{add_counts, nodes_of};
+use crate::settling::{counts_of, doc_of};
 use crate::status::BoundaryStatus;
 use dom_forest::Doc;
 use fizz_text::{Attributes, OutOfMemory, Text};
 use sqlite_items::Items;
 use std::alloc::{AllocError, Global};
 
-/// What counts of a document, in its order. Dropping one goes down its items by recursion.
+/// What counts of a document, as the list of its parts in their order. However deep it nests, nothing goes down it by
+/// recursion.
 #[derive(Debug, Drop)]
 pub struct View {
-    pub items: Items<Item>,
+    pub parts: Items<ViewPart>,
+    ghost whole: { parts ≡ view_parts (seen parts) [] },
 }
 
 impl View {
-    /// The elements and texts of the view, those of each boundary in its place; refused where a boundary is pending. The
-    /// boundaries are counted by recursion, and then the nodes are made with what is begun in a list.
+    /// The elements and texts of the view, those of each boundary in its place; refused where a boundary is pending.
     pub fn settled(&self, alloc: Global) -> Result<Doc, SettledRefused>
-        ensures settled { IfOk result (λ doc. settled_of (seen self.now.items) ≡ Some doc.nodes) }
-        ensures refused { IfErr result (IsSettledCause (seen self.now.items)) }
+        ensures settled { IfOk result (λ doc. settled_of (seen self.now.parts) ≡ Some (nodes_in doc.parts)) }
+        ensures refused { IfErr result (IsSettledCause (seen self.now.parts)) }
     {
         let pending = self.counts().pending;
         if pending != 0 {
             return Err(SettledRefused::StillPending { count: pending });
         }
-        let nodes = nodes_of(alloc, self.items.as_slice())?;
-        Ok(Doc { nodes })
+        Ok(doc_of(alloc, self.parts.as_slice())?)
     }
 
-    /// How many boundaries there are, by recursion over the items.
+    /// How many boundaries there are.
     pub fn counts(&self) -> Counts
-        ensures { result ≡ counts_of (seen self.now.items) }
+        ensures { result ≡ counts_of (seen self.now.parts) }
     {
-        let mut counts = Counts {
-            boundaries: 0,
-            failed: 0,
-            pending: 0,
-        };
-        add_counts(&mut counts, self.items.as_slice());
-        counts
+        counts_of(self.parts.as_slice())
     }
 }
 
-/// An item of a view. Its text and the values of attributes are not escaped.
+/// A part of a view. Its text and the values of attributes are not escaped. What an element or a boundary holds stands
+/// between it and its end.
 #[derive(Debug, Drop)]
-pub enum Item {
-    Element {
-        name: Text,
-        attributes: Attributes,
-        items: Items<Item>,
-    },
+pub enum ViewPart {
+    Element { name: Text, attributes: Attributes },
     Text(Text),
     /// A boundary with what it shows. The digest is that of the error for which the content failed, and else empty.
-    Boundary {
-        kind: BoundaryStatus,
-        digest: Text,
-        items: Items<Item>,
-    },
+    Boundary { kind: BoundaryStatus, digest: Text },
+    /// The innermost element ends.
+    EndOfElement,
+    /// The innermost boundary ends.
+    EndOfBoundary,
 }
 
 /// How many boundaries a view has, nested ones included. A number that would be greater is 2^64 - 1.

@@ -10,7 +10,10 @@ ghost use Rattle.document_machine.specs.Views.{view_of};
 /// A view says nothing of the ids of nodes. A document without boundaries, templates and hidden containers is its own
 /// view and its own settled document, save that its space comments are left out.
 pub fn laws_of_views()
-    ensures ids { (prefix : List ℕ) (first : ℕ) (forest : Forest) → view_of prefix (renumbered first forest) ≡ view_of prefix forest }
-    ensures plain { (prefix : List ℕ) (forest : Forest) → IsPlain prefix true forest → view_of prefix forest ≡ plain_view forest }
-    ensures settled { (prefix : List ℕ) (forest : Forest) → IsPlain prefix true forest → settled_of (view_of prefix forest) ≡ Some (plain_nodes forest) }
+    ensures ids { (prefix : List ℕ) (first : ℕ) (forest : Forest) →
+        view_of prefix (renumbered first forest) ≡ view_of prefix forest }
+    ensures plain { (prefix : List ℕ) (forest : Forest) → IsPlain prefix true forest →
+        view_of prefix forest ≡ plain_view forest }
+    ensures settled { (prefix : List ℕ) (forest : Forest) → IsPlain prefix true forest →
+        settled_of (view_of prefix forest) ≡ Some (plain_nodes forest) }
 {}

@@ -3,45 +3,37 @@
 ghost use Rattle.std.specs.Prelude.{◌≡◌, ◌<◌, ◌≤◌, ◌+◌, [], IfOk, OnOk, Some, false, ℕ, List};
 ghost use Rattle.dom_forest.specs.Edits.{IsNumbered};
 ghost use Rattle.dom_forest.specs.Forest.{Forest, kids_of, later_of};
-ghost use Rattle.document_machine.specs.declared.view.Item.TheVariants as item;
+ghost use Rattle.document_machine.specs.declared.view.ViewPart.TheVariants as part;
+ghost use Rattle.document_machine.specs.declared.viewing.Frame.{Frame};
 ghost use Rattle.document_machine.specs.declared.viewing.Frame.TheVariants.{Element, Boundary};
 ghost use Rattle.document_machine.specs.Shown.{seen};
-ghost use Rattle.document_machine.specs.Views.{Levels, digest_after, ended, marked, opened, siblings_of, view_of};
-ghost use Rattle.document_machine.specs.Viewing.{after_frame, all_enclosed, completed, completed_from, enclosed, frame_turns, frames_turns, inside, nodes_from, turns};
+ghost use Rattle.document_machine.specs.Views.{Levels, digest_after, ended, marked, opened, view_of};
+ghost use Rattle.document_machine.specs.Viewing.{all_parts, all_parts_from, frame_turns, frames_turns, nodes_from, no_levels, turns, walk_inside, with_frame};
 
 use crate::left_out::{digest_in, is_left_out, is_template};
 use crate::status::BoundaryStatus;
-use crate::view::{Item, View};
+use crate::view::{View, ViewPart};
 use dom_forest::{Dom, DomNode, Mark, NodeId, laws_of_walks};
 use fizz_text::{Attr, Attributes, OutOfMemory, Text};
 use sqlite_items::Items;
 use std::alloc::Global;
-use std::mem;
 
-/// What was begun and is not closed, with the items before it among its siblings.
-#[derive(Drop)]
+/// What was begun and is not closed.
+#[derive(Clone, Copy, Drop)]
 enum Frame {
     Element {
-        name: Text,
-        attributes: Attributes,
         /// Whether it stands at the top of the document.
         at_top: bool,
         /// Its next sibling.
         later: Option<NodeId>,
-        before: Items<Item>,
     },
-    Boundary {
-        kind: BoundaryStatus,
-        digest: Text,
-        before: Items<Item>,
-    },
+    Boundary,
 }
 
 /// How far a walk over a document has come.
 #[derive(Drop)]
 struct Walk {
-    /// The items so far in the innermost frame.
-    items: Items<Item>,
+    parts: Items<ViewPart>,
     /// The innermost is the last one.
     frames: Items<Frame>,
     /// Whether no frame is an element.
@@ -53,10 +45,10 @@ struct Walk {
 /// out, as are templates, the space comments, and at the top the hidden containers of segments. What is begun is kept
 /// in a list, so a deep document takes memory and no stack.
 pub(crate) fn view_of(alloc: Global, dom: &Dom, prefix: &Text) -> Result<View, OutOfMemory>
-    ensures { IfOk result (λ view. seen view.items ≡ view_of prefix.now dom.now.forest) }
+    ensures { IfOk result (λ view. seen view.parts ≡ view_of prefix.now dom.now.forest) }
 {
     let mut walk = Walk {
-        items: Items::new(alloc),
+        parts: Items::new(alloc),
         frames: Items::new(alloc),
         at_top: true,
     };
@@ -66,7 +58,7 @@ pub(crate) fn view_of(alloc: Global, dom: &Dom, prefix: &Text) -> Result<View, O
             Some(node) => here = pass(alloc, dom, prefix.as_bytes(), &mut walk, node)?,
             None => match walk.frames.pop() {
                 Some(frame) => here = close(&mut walk, frame)?,
-                None => return Ok(View { items: walk.items }),
+                None => return Ok(View { parts: walk.parts }),
             },
         }
     }
@@ -86,7 +78,8 @@ fn pass(
     walk: &mut Walk,
     node: NodeId,
 ) -> Result<Option<NodeId>, OutOfMemory>
-    ensures view { IfOk result (λ next. completed_from prefix.now dom.now.forest walk.new next ≡ completed_from prefix.now dom.now.forest walk.old (Some node)) }
+    ensures view { IfOk result (λ next. all_parts_from prefix.now dom.now.forest walk.new next
+        ≡ all_parts_from prefix.now dom.now.forest walk.old (Some node)) }
     ensures less { IfOk result (λ next. turns dom.now.forest walk.new next < turns dom.now.forest walk.old (Some node)) }
 {
     let Some(content) = dom.look(node) else {
@@ -102,7 +95,7 @@ fn pass(
             Ok(first_child(dom, node))
         }
         DomNode::Text(text) => {
-            walk.items.push(Item::Text(text.copy(alloc)?))?;
+            walk.parts.push(ViewPart::Text(text.copy(alloc)?))?;
             Ok(later)
         }
         DomNode::Comment(mark) => {
@@ -135,16 +128,15 @@ fn open_element(
     attributes: &[Attr],
     later: Option<NodeId>,
 ) -> Result<(), OutOfMemory>
-    ensures { OnOk result (walk.new ≡ inside (Element name.now attributes.now walk.old.at_top later walk.old.items) false walk.old) }
+    ensures { OnOk result (walk.new
+        ≡ walk_inside (Element walk.old.at_top later) (part.Element name.now attributes.now) false walk.old) }
 {
     let name = name.copy(alloc)?;
     let attributes = copies(alloc, attributes)?;
+    walk.parts.push(ViewPart::Element { name, attributes })?;
     walk.frames.push(Frame::Element {
-        name,
-        attributes,
         at_top: walk.at_top,
         later,
-        before: mem::replace(&mut walk.items, Items::new(alloc)),
     })?;
     walk.at_top = false;
     Ok(())
@@ -168,39 +160,34 @@ fn pass_mark(
     mark: Mark,
     later: Option<NodeId>,
 ) -> Result<(), OutOfMemory>
-    ensures view { OnOk result ((prefix : List ℕ) (levels : Levels) → completed prefix dom.now.forest walk.new levels
-        ≡ completed prefix dom.now.forest walk.old (marked mark (nodes_from later dom.now.forest) levels)) }
+    ensures view { OnOk result ((prefix : List ℕ) (levels : Levels) → all_parts prefix dom.now.forest walk.new levels
+        ≡ all_parts prefix dom.now.forest walk.old (marked mark (nodes_from later dom.now.forest) levels)) }
     ensures top { OnOk result (walk.new.at_top ≡ walk.old.at_top) }
-    ensures less { OnOk result (frames_turns dom.now.forest walk.new.frames ≤ frames_turns dom.now.forest walk.old.frames + 2) }
+    ensures less { OnOk result (frames_turns dom.now.forest walk.new.frames
+        ≤ frames_turns dom.now.forest walk.old.frames + 2) }
 {
     match mark {
-        Mark::Complete => open_boundary(alloc, walk, BoundaryStatus::Complete, Text::fixed("")),
-        Mark::Pending => open_boundary(alloc, walk, BoundaryStatus::Pending, Text::fixed("")),
+        Mark::Complete => open_boundary(walk, BoundaryStatus::Complete, Text::fixed("")),
+        Mark::Pending => open_boundary(walk, BoundaryStatus::Pending, Text::fixed("")),
         Mark::Client => {
             let digest = digest_after(alloc, dom, later)?;
-            open_boundary(alloc, walk, BoundaryStatus::Client, digest)
+            open_boundary(walk, BoundaryStatus::Client, digest)
         }
         Mark::End => end_boundary(walk),
         Mark::Space => Ok(()),
     }
 }
 
-fn open_boundary(
-    alloc: Global,
-    walk: &mut Walk,
-    kind: BoundaryStatus,
-    digest: Text,
-) -> Result<(), OutOfMemory>
-    ensures view { OnOk result ((prefix : List ℕ) (forest : Forest) (levels : Levels) → completed prefix forest walk.new levels
-        ≡ completed prefix forest walk.old (opened kind digest levels.first levels.rest)) }
+fn open_boundary(walk: &mut Walk, kind: BoundaryStatus, digest: Text) -> Result<(), OutOfMemory>
+    ensures view { OnOk result ((prefix : List ℕ) (forest : Forest) (levels : Levels) →
+        all_parts prefix forest walk.new levels
+        ≡ all_parts prefix forest walk.old (opened kind digest levels.first levels.rest)) }
     ensures top { OnOk result (walk.new.at_top ≡ walk.old.at_top) }
-    ensures less { OnOk result ((forest : Forest) → frames_turns forest walk.new.frames ≤ frames_turns forest walk.old.frames + 2) }
+    ensures less { OnOk result ((forest : Forest) →
+        frames_turns forest walk.new.frames ≤ frames_turns forest walk.old.frames + 2) }
 {
-    walk.frames.push(Frame::Boundary {
-        kind,
-        digest,
-        before: mem::replace(&mut walk.items, Items::new(alloc)),
-    })?;
+    walk.parts.push(ViewPart::Boundary { kind, digest })?;
+    walk.frames.push(Frame::Boundary)?;
     Ok(())
 }
 
@@ -221,70 +208,38 @@ fn digest_after(alloc: Global, dom: &Dom, place: Option<NodeId>) -> Result<Text,
 
 /// Ends the innermost frame if it is a boundary, and else does nothing.
 fn end_boundary(walk: &mut Walk) -> Result<(), OutOfMemory>
-    ensures view { OnOk result ((prefix : List ℕ) (forest : Forest) (levels : Levels) → completed prefix forest walk.new levels ≡ completed prefix forest walk.old (ended levels)) }
+    ensures view { OnOk result ((prefix : List ℕ) (forest : Forest) (levels : Levels) →
+        all_parts prefix forest walk.new levels ≡ all_parts prefix forest walk.old (ended levels)) }
     ensures top { OnOk result (walk.new.at_top ≡ walk.old.at_top) }
-    ensures less { OnOk result ((forest : Forest) → frames_turns forest walk.new.frames ≤ frames_turns forest walk.old.frames) }
+    ensures less { OnOk result ((forest : Forest) →
+        frames_turns forest walk.new.frames ≤ frames_turns forest walk.old.frames) }
 {
     let Some(frame) = walk.frames.pop() else {
         return Ok(());
     };
     match frame {
-        Frame::Boundary {
-            kind,
-            digest,
-            before,
-        } => close_boundary(walk, kind, digest, before),
-        element => Ok(walk.frames.push(element)?),
+        Frame::Boundary => walk.parts.push(ViewPart::EndOfBoundary)?,
+        element => walk.frames.push(element)?,
     }
+    Ok(())
 }
 
 /// Closes a frame where its siblings end, and says which node is next.
 fn close(walk: &mut Walk, frame: Frame) -> Result<Option<NodeId>, OutOfMemory>
-    ensures view { IfOk result (λ next. (prefix : List ℕ) (forest : Forest) → completed_from prefix forest walk.new next
-        ≡ siblings_of (all_enclosed prefix forest walk.old.frames (enclosed prefix forest frame (record { first = seen walk.old.items; rest = [] })))) }
-    ensures less { IfOk result (λ next. (forest : Forest) → turns forest walk.new next < frames_turns forest walk.old.frames + frame_turns forest frame) }
+    ensures view { IfOk result (λ next. (prefix : List ℕ) (forest : Forest) → all_parts_from prefix forest walk.new next
+        ≡ all_parts prefix forest (with_frame frame walk.old) no_levels) }
+    ensures less { IfOk result (λ next. (forest : Forest) →
+        turns forest walk.new next < frames_turns forest walk.old.frames + frame_turns forest frame) }
 {
     match frame {
-        Frame::Element {
-            name,
-            attributes,
-            at_top,
-            later,
-            before,
-        } => {
-            let items = mem::replace(&mut walk.items, before);
-            walk.items.push(Item::Element {
-                name,
-                attributes,
-                items,
-            })?;
+        Frame::Element { at_top, later } => {
+            walk.parts.push(ViewPart::EndOfElement)?;
             walk.at_top = at_top;
             Ok(later)
         }
-        Frame::Boundary {
-            kind,
-            digest,
-            before,
-        } => {
-            close_boundary(walk, kind, digest, before)?;
+        Frame::Boundary => {
+            walk.parts.push(ViewPart::EndOfBoundary)?;
             Ok(None)
         }
     }
-}
-
-fn close_boundary(
-    walk: &mut Walk,
-    kind: BoundaryStatus,
-    digest: Text,
-    before: Items<Item>,
-) -> Result<(), OutOfMemory>
-    ensures { OnOk result (walk.new ≡ after_frame before (item.Boundary kind digest walk.old.items) walk.old) }
-{
-    let items = mem::replace(&mut walk.items, before);
-    walk.items.push(Item::Boundary {
-        kind,
-        digest,
-        items,
-    })?;
-    Ok(())
 }

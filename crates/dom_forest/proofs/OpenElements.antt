@@ -1,63 +1,119 @@
--- What the open elements of a printer still print, as they are begun.
-use Rattle.std.proofs.Common.{◌≡◌, ℕ, ◌+◌, Bool, false, if◌then◌else◌, List, [], ◌∷◌, ◌++◌, codes, map, sym, ap, ◌∙◌, arith, append_assoc, append-nil}
+-- What is still printed of a document where some elements are open, as parts are passed.
+use Rattle.std.proofs.Common.{◌≡◌, ℕ, zero, suc, ◌+◌, ◌-◌, ◌<◌, Bool, true, false, if◌then◌else◌, List, [], ◌∷◌, ◌++◌, codes, map, reverse, refl, sym, ap, ◌∙◌, arith, append_assoc, append-nil}
+use Rattle.std.proofs.lemmas.List.{reverse-append}
 use Rattle.fizz_text.specs.declared.attribute.Attr.{Attr}
 use Rattle.html_names.specs.Printing.{end_tag, tag_prefix}
-use Rattle.dom_forest.specs.Printing.{Printed, printed, printed_step, siblings_bytes, is_void}
+use Rattle.dom_forest.specs.Documents.{NodeLevels, all_levels, levels_after, levels_of, with_node}
+use Rattle.dom_forest.specs.Printing.{Printed, is_void, printed, printed_step, siblings_bytes, text_bytes}
 use Rattle.dom_forest.specs.declared.document.DocNode.{DocNode}
-use Rattle.dom_forest.specs.declared.document.DocNode.TheVariants.{Element, Text, rolls-Element, rolls-Text}
-use Rattle.dom_forest.specs.declared.document.DocNode.TheOpen.{Element as element_layer, Text as text_layer}
 use Rattle.dom_forest.specs.declared.document.DocNode.TheFolds.{fold-roll-DocNode}
+use Rattle.dom_forest.specs.declared.document.DocNode.TheOpen.{Element as element_layer, Text as text_layer}
+use Rattle.dom_forest.specs.declared.document.DocNode.TheVariants as doc
+use Rattle.dom_forest.specs.declared.document.DocPart.{DocPart}
+use Rattle.dom_forest.specs.declared.document.DocPart.TheVariants.{Element, Text, End}
 use Rattle.dom_forest.specs.declared.printing.Open.{Open}
-use Rattle.dom_forest.specs.OpenElements.{ending, closing, left_bytes, weight, weight_step, weight_of_all, weight_of_open}
+use Rattle.dom_forest.specs.OpenElements.{bytes_to_end, left_bytes, levels_past}
 
-pub printed-element : (name : List ℕ) (attributes : List Attr) (kids : List DocNode) → printed (Element name attributes kids) ≡ printed_step (element_layer name attributes (map printed kids))
+pub printed-element : (name : List ℕ) (attributes : List Attr) (kids : List DocNode) → printed (doc.Element name attributes kids) ≡ printed_step (element_layer name attributes (map printed kids))
 printed-element name attributes kids =
-    ap printed (sym (rolls-Element name attributes kids)) ∙ fold-roll-DocNode Printed printed_step (element_layer name attributes kids)
+    ap printed (sym (doc.rolls-Element name attributes kids)) ∙ fold-roll-DocNode Printed printed_step (element_layer name attributes kids)
 
-pub printed-text : (text : List ℕ) → printed (Text text) ≡ printed_step (text_layer text)
-printed-text text = ap printed (sym (rolls-Text text)) ∙ fold-roll-DocNode Printed printed_step (text_layer text)
+pub printed-text : (text : List ℕ) → printed (doc.Text text) ≡ printed_step (text_layer text)
+printed-text text = ap printed (sym (doc.rolls-Text text)) ∙ fold-roll-DocNode Printed printed_step (text_layer text)
 
-nil_right : (bytes : List ℕ) → [] ++ bytes ≡ bytes ++ []
-nil_right bytes = sym (append-nil bytes)
+-- One node more.
+all_levels-node : (node : DocNode) (first : List DocNode) (rest : List (List DocNode)) → all_levels (node ∷ first) rest ≡ node ∷ all_levels first rest
+all_levels-node node first [] = refl
+all_levels-node node first (next ∷ rest) = refl
 
-pub closing-push : (es : List Open) (e : Open) → closing (es ++ e ∷ []) ≡ ending e ++ closing es
-closing-push [] e = nil_right (ending e)
-closing-push (x ∷ es) e = ap (λ bytes. bytes ++ ending x) (closing-push es e) ∙ append_assoc (ending e) (closing es) (ending x)
+bytes_to_end-node : (after : Bool) (es : List Open) (node : DocNode) (levels : NodeLevels)
+    → bytes_to_end after es (with_node node levels) ≡ (printed node).bytes after ++ bytes_to_end (printed node).is_text es levels
+bytes_to_end-node after [] node levels = ap (λ ns. siblings_bytes after (map printed ns)) (all_levels-node node levels.first levels.rest)
+bytes_to_end-node after (e ∷ es) node levels =
+    append_assoc ((printed node).bytes after) (siblings_bytes (printed node).is_text (map printed levels.first)) (end_tag e.name.now ++ bytes_to_end false es (levels_after levels.rest))
 
-regroup : (out front mark inner end outer rest : List ℕ) → ((out ++ front) ++ mark) ++ (inner ++ ((end ++ outer) ++ rest)) ≡ out ++ (((front ++ ((mark ++ inner) ++ end)) ++ outer) ++ rest)
-regroup out front mark inner end outer rest = simp append_assoc
+-- A text.
+pub bytes_to_end-text : (after : Bool) (es : List Open) (text : List ℕ) (parts : List DocPart)
+    → bytes_to_end after es (levels_of (Text text ∷ parts)) ≡ text_bytes after text ++ bytes_to_end true es (levels_of parts)
+bytes_to_end-text after es text parts =
+    bytes_to_end-node after es (doc.Text text) (levels_of parts)
+    ∙ ap (λ (p : Printed). p.bytes after ++ bytes_to_end p.is_text es (levels_of parts)) (printed-text text)
 
-abbrev element_tail : Bool → List ℕ → List Printed → List ℕ
-element_tail void name kids = if void then codes "/>" else codes ">" ++ siblings_bytes false kids ++ end_tag name
+-- An element that is void, or isn't.
+element_bytes_are : (void : Bool) (name : List ℕ) (front inner : List ℕ) → List ℕ
+element_bytes_are void name front inner = front ++ (if void then codes "/>" else codes ">" ++ inner ++ end_tag name)
 
--- The siblings in hand begin with an element that isn't void.
-siblings-element : (after_text : Bool) (name : List ℕ) (attributes : List Attr) (kids later : List DocNode) → is_void name ≡ false
-    → siblings_bytes after_text (map printed (Element name attributes kids ∷ later))
-    ≡ (tag_prefix name attributes ++ (codes ">" ++ siblings_bytes false (map printed kids) ++ end_tag name)) ++ siblings_bytes false (map printed later)
-siblings-element after_text name attributes kids later plain =
-    ap (λ (p : Printed). p.bytes after_text ++ siblings_bytes p.is_text (map printed later)) (printed-element name attributes kids)
-    ∙ ap (λ void. (tag_prefix name attributes ++ element_tail void name (map printed kids)) ++ siblings_bytes false (map printed later)) plain
+bytes_to_end-element : (after : Bool) (es : List Open) (name : List ℕ) (attributes : List Attr) (parts : List DocPart)
+    → bytes_to_end after es (levels_of (Element name attributes ∷ parts))
+    ≡ (tag_prefix name attributes ++ (if is_void name then codes "/>" else codes ">" ++ siblings_bytes false (map printed (levels_of parts).first) ++ end_tag name))
+    ++ bytes_to_end false es (levels_after (levels_of parts).rest)
+bytes_to_end-element after es name attributes parts =
+    let inner = levels_of parts in
+    bytes_to_end-node after es (doc.Element name attributes inner.first) (levels_after inner.rest)
+    ∙ ap (λ (p : Printed). p.bytes after ++ bytes_to_end p.is_text es (levels_after inner.rest)) (printed-element name attributes inner.first)
 
--- An element that isn't void is begun.
-pub goes_in : (out more : List ℕ) (after_text : Bool) (name : List ℕ) (attributes : List Attr) (kids later : List DocNode) (open_now : List Open) (e : Open)
-    → is_void name ≡ false → more ≡ (out ++ tag_prefix name attributes) ++ codes ">" → ending e ≡ end_tag name ++ siblings_bytes false (map printed later)
-    → more ++ left_bytes false kids (open_now ++ e ∷ []) ≡ out ++ left_bytes after_text (Element name attributes kids ∷ later) open_now
-goes_in out more after_text name attributes kids later open_now e plain written ends =
+pub void_element : (out : List ℕ) (after : Bool) (es : List Open) (name : List ℕ) (attributes : List Attr) (parts rest : List DocPart) → is_void name ≡ true
+    → levels_of rest ≡ levels_after (levels_of parts).rest
+    → ((out ++ tag_prefix name attributes) ++ codes "/>") ++ bytes_to_end false es (levels_of rest) ≡ out ++ bytes_to_end after es (levels_of (Element name attributes ∷ parts))
+void_element out after es name attributes parts rest void past =
     let front = tag_prefix name attributes in
-    let inner = siblings_bytes false (map printed kids) in
-    let outer = siblings_bytes false (map printed later) in
-    ap (λ bytes. bytes ++ (inner ++ closing (open_now ++ e ∷ []))) written
-    ∙ ap (λ bytes. ((out ++ front) ++ codes ">") ++ (inner ++ bytes)) (closing-push open_now e ∙ ap (λ bytes. bytes ++ closing open_now) ends)
-    ∙ regroup out front (codes ">") inner (end_tag name) outer (closing open_now)
-    ∙ ap (λ bytes. out ++ (bytes ++ closing open_now)) (sym (siblings-element after_text name attributes kids later plain))
+    let later = bytes_to_end false es (levels_after (levels_of parts).rest) in
+    ap (λ l. ((out ++ front) ++ codes "/>") ++ bytes_to_end false es l) past
+    ∙ (simp append_assoc)
+    ∙ ap (λ x. out ++ x) (sym (append_assoc front (codes "/>") later)
+    ∙ ap (λ v. (front ++ (if v then codes "/>" else codes ">" ++ siblings_bytes false (map printed (levels_of parts).first) ++ end_tag name)) ++ later) (sym void)
+    ∙ sym (bytes_to_end-element after es name attributes parts))
 
-pub weight-element : (name : List ℕ) (attributes : List Attr) (kids : List DocNode) → weight (Element name attributes kids) ≡ weight_of_all kids + 2
-weight-element name attributes kids =
-    ap weight (sym (rolls-Element name attributes kids)) ∙ fold-roll-DocNode ℕ weight_step (element_layer name attributes kids)
+pub open_element : (out : List ℕ) (after : Bool) (es : List Open) (e : Open) (name : List ℕ) (attributes : List Attr) (parts : List DocPart) → is_void name ≡ false → e.name.now ≡ name
+    → ((out ++ tag_prefix name attributes) ++ codes ">") ++ bytes_to_end false (e ∷ es) (levels_of parts) ≡ out ++ bytes_to_end after es (levels_of (Element name attributes ∷ parts))
+open_element out after es e name attributes parts void named =
+    let front = tag_prefix name attributes in
+    let inner = siblings_bytes false (map printed (levels_of parts).first) in
+    let later = bytes_to_end false es (levels_after (levels_of parts).rest) in
+    ap (λ n. ((out ++ front) ++ codes ">") ++ (inner ++ (end_tag n ++ later))) named
+    ∙ regroup out front (codes ">") inner (end_tag name) later
+    ∙ ap (λ v. out ++ ((front ++ (if v then codes "/>" else codes ">" ++ inner ++ end_tag name)) ++ later)) (sym void)
+    ∙ ap (λ x. out ++ x) (sym (bytes_to_end-element after es name attributes parts)) where
+      regroup : (out front mark inner end later : List ℕ) → ((out ++ front) ++ mark) ++ (inner ++ (end ++ later)) ≡ out ++ ((front ++ ((mark ++ inner) ++ end)) ++ later)
+      regroup out front mark inner end later = simp append_assoc
 
-pub weight-text : (text : List ℕ) → weight (Text text) ≡ 1
-weight-text text = ap weight (sym (rolls-Text text)) ∙ fold-roll-DocNode ℕ weight_step (text_layer text)
+-- An end of what is open, and of nothing.
+pub end_inner : (out : List ℕ) (after : Bool) (es : List Open) (e : Open) (parts : List DocPart)
+    → (out ++ end_tag e.name.now) ++ bytes_to_end false es (levels_of parts) ≡ out ++ bytes_to_end after (e ∷ es) (levels_of (End ∷ parts))
+end_inner out after es e parts = append_assoc out (end_tag e.name.now) (bytes_to_end false es (levels_of parts))
 
-pub weight_of_open-push : (es : List Open) (e : Open) → weight_of_open (es ++ e ∷ []) ≡ weight_of_all e.later.now + 1 + weight_of_open es
-weight_of_open-push [] e = omega arith
-weight_of_open-push (x ∷ es) e = omega (arith, weight_of_open-push es e)
+pub end_nothing : (after : Bool) (parts : List DocPart) → bytes_to_end after [] (levels_of (End ∷ parts)) ≡ bytes_to_end after [] (levels_of parts)
+end_nothing after parts = refl
+
+-- Where the parts end, an open element does.
+pub end_all : (out : List ℕ) (after : Bool) (es : List Open) (e : Open)
+    → (out ++ end_tag e.name.now) ++ bytes_to_end false es (levels_of []) ≡ out ++ bytes_to_end after (e ∷ es) (levels_of [])
+end_all out after es e = append_assoc out (end_tag e.name.now) (bytes_to_end false es (levels_of []))
+
+-- Ends that are passed over.
+abbrev no_levels : NodeLevels
+no_levels = record { first = []; rest = [] }
+
+pub levels_past-none : (n : ℕ) → levels_past n no_levels ≡ no_levels
+levels_past-none zero = refl
+levels_past-none (suc n) = levels_past-none n
+
+pub levels_past-text : (n : ℕ) (text : List ℕ) (parts : List DocPart) → 0 < n → levels_past n (levels_of (Text text ∷ parts)) ≡ levels_past n (levels_of parts)
+levels_past-text zero text parts h = absurd (omega arith)
+levels_past-text (suc n) text parts h = refl
+
+pub levels_past-element : (n : ℕ) (name : List ℕ) (attributes : List Attr) (parts : List DocPart) → 0 < n → levels_past n (levels_of (Element name attributes ∷ parts)) ≡ levels_past (n + 1) (levels_of parts)
+levels_past-element zero name attributes parts h = absurd (omega arith)
+levels_past-element (suc n) name attributes parts h = ap (λ m. levels_past m (levels_of parts)) (two n) where
+  two : (n : ℕ) → suc (suc n) ≡ suc n + 1
+  two n = omega arith
+
+pub levels_past-end : (n : ℕ) (parts : List DocPart) → 0 < n → levels_past n (levels_of (End ∷ parts)) ≡ levels_past (n - 1) (levels_of parts)
+levels_past-end zero parts h = absurd (omega arith)
+levels_past-end (suc n) parts h = ap (λ m. levels_past m (levels_of parts)) (one n) where
+  one : (n : ℕ) → n ≡ suc n - 1
+  one n = omega arith
+
+-- The innermost of open elements is the last one.
+pub reverse_push : (es : List Open) (e : Open) → reverse (es ++ e ∷ []) ≡ e ∷ reverse es
+reverse_push es e = reverse-append es (e ∷ [])

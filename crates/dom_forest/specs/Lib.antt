@@ -1,5 +1,6 @@
 pub mod Boundary
 pub mod Chain
+pub mod Documents
 pub mod Edits
 pub mod Flat
 pub mod Forest

@@ -1,43 +1,26 @@
--- What the open elements of the printer still print, and how much work they leave.
-use Rattle.std.specs.Prelude.{ℕ, ◌+◌, false, Bool, List, [], ◌∷◌, ◌++◌, map}
-use Rattle.dom_forest.specs.declared.document.DocNode.{DocNode}
-use Rattle.dom_forest.specs.declared.document.DocNode.TheOpen.{DocNode-F, Element as element_layer, Text as text_layer}
-use Rattle.dom_forest.specs.declared.document.DocNode.TheFolds.{fold-DocNode}
+-- What is still printed of a document where some elements are open.
+use Rattle.std.specs.Prelude.{ℕ, zero, suc, ◌+◌, ◌*◌, Bool, false, List, [], ◌∷◌, ◌++◌, length, map, reverse}
+use Rattle.dom_forest.specs.Documents.{NodeLevels, all_levels, levels_after, levels_of}
+use Rattle.dom_forest.specs.declared.document.DocPart.{DocPart}
 use Rattle.dom_forest.specs.declared.printing.Open.{Open}
 use Rattle.html_names.specs.Printing.{end_tag}
 use Rattle.dom_forest.specs.Printing.{printed, siblings_bytes}
 
--- The end of an element, and its later siblings.
-abbrev pub ending : Open → List ℕ
-ending e = end_tag e.name.now ++ siblings_bytes false (map printed e.later.now)
+-- What is printed yet where elements are open, the innermost first, and these siblings follow, after a text or not.
+abbrev pub bytes_to_end : Bool → List Open → NodeLevels → List ℕ
+bytes_to_end after_text [] levels = siblings_bytes after_text (map printed (all_levels levels.first levels.rest))
+bytes_to_end after_text (e ∷ es) levels =
+    siblings_bytes after_text (map printed levels.first) ++ (end_tag e.name.now ++ bytes_to_end false es (levels_after levels.rest))
 
--- What is printed once the siblings in hand are: the end of the innermost element, its later siblings, and so on out.
-abbrev pub closing : List Open → List ℕ
-closing [] = []
-closing (e ∷ es) = closing es ++ ending e
+-- The same where the innermost is the last one, and parts follow.
+abbrev pub left_bytes : Bool → List DocPart → List Open → List ℕ
+left_bytes after_text parts open_now = bytes_to_end after_text (reverse open_now) (levels_of parts)
 
--- What is printed yet where these siblings are in hand.
-abbrev pub left_bytes : Bool → List DocNode → List Open → List ℕ
-left_bytes after_text nodes open_now = siblings_bytes after_text (map printed nodes) ++ closing open_now
+-- What follows so many ends.
+abbrev pub levels_past : ℕ → NodeLevels → NodeLevels
+levels_past zero levels = levels
+levels_past (suc n) levels = levels_past n (levels_after levels.rest)
 
-abbrev pub sum_of : List ℕ → ℕ
-sum_of [] = 0
-sum_of (n ∷ ns) = n + sum_of ns
-
--- The turns that a node takes: one for a text, two for an element and those of its children.
-abbrev pub weight_step : DocNode-F ℕ → ℕ
-weight_step (element_layer name attributes kids) = sum_of kids + 2
-weight_step (text_layer text) = 1
-
-abbrev pub weight : DocNode → ℕ
-weight = fold-DocNode ℕ weight_step
-
-abbrev pub weight_of_all : List DocNode → ℕ
-weight_of_all nodes = sum_of (map weight nodes)
-
-abbrev pub weight_of_open : List Open → ℕ
-weight_of_open [] = 0
-weight_of_open (e ∷ es) = weight_of_all e.later.now + 1 + weight_of_open es
-
-abbrev pub work_left : List DocNode → List Open → ℕ
-work_left nodes open_now = weight_of_all nodes + weight_of_open open_now
+-- The turns that are left: two for each part, and one for each open element.
+abbrev pub turns_left : List DocPart → List Open → ℕ
+turns_left parts open_now = 2 * length parts + length open_now

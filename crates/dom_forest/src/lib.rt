@@ -17,7 +17,7 @@ mod spine;
 #[cfg(test)]
 mod tests;
 
-pub use document::{Doc, DocNode};
+pub use document::{Doc, DocNode, DocPart};
 pub use dom::{Dom, InsertRefused, laws_of_walks};
 pub use node::{DomNode, Mark, NewNode, NodeId};
 pub use printing::print_doc;

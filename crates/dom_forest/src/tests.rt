@@ -1,4 +1,4 @@
-use crate::{Doc, DocNode, Dom, DomNode, InsertRefused, Mark, NewNode, NodeId, print_doc};
+use crate::{Doc, DocPart, Dom, DomNode, InsertRefused, Mark, NewNode, NodeId, print_doc};
 use fizz_text::{Attr, Attributes, OutOfMemory, Text};
 use sqlite_items::Items;
 use std::alloc::Global;
@@ -8,94 +8,49 @@ use std::test::Fail;
 /// How a document is built, one step after another.
 enum Step {
     Open(&'static str),
-    With(&'static str, &'static str),
-    Alone(&'static str),
+    With(&'static str, &'static str, &'static str),
+    Alone(&'static str, &'static str),
     Close,
     Words(&'static str),
 }
 
-/// An element that is not closed yet.
-#[derive(Drop)]
-struct Unfinished {
-    name: &'static str,
-    attributes: Attributes,
-    kids: Items<DocNode>,
-}
-
 fn build(alloc: Global, steps: &[Step]) -> Result<Doc, OutOfMemory> {
-    let mut nodes = Items::new(alloc);
-    let mut open: Vec<Unfinished> = Vec::new(alloc);
+    let mut parts = Items::new(alloc);
     for step in steps {
-        match step {
-            Step::Open(name) => open.push(Unfinished {
-                name,
-                attributes: Attributes::new(alloc),
-                kids: Items::new(alloc),
-            })?,
-            Step::With(name, value) => {
-                let value = Some(Text::fixed(value));
-                add_attribute(
-                    &mut open,
-                    Attr {
-                        name: Text::fixed(name),
-                        value,
-                    },
-                )?;
-            }
-            Step::Alone(name) => {
-                add_attribute(
-                    &mut open,
-                    Attr {
-                        name: Text::fixed(name),
-                        value: None,
-                    },
-                )?;
-            }
-            Step::Close => {
-                if let Some(
-                    Unfinished {
-                        name,
-                        attributes,
-                        kids,
-                    },
-                ) = open.pop()
-                {
-                    let name = Text::fixed(name);
-                    add_node(
-                        &mut nodes,
-                        &mut open,
-                        DocNode::Element {
-                            name,
-                            attributes,
-                            kids,
-                        },
-                    )?;
-                }
-            }
-            Step::Words(words) => {
-                add_node(&mut nodes, &mut open, DocNode::Text(Text::fixed(words)))?;
-            }
+        parts.push(part_of(alloc, step)?)?;
+    }
+    Ok(Doc { parts })
+}
+
+fn part_of(alloc: Global, step: &Step) -> Result<DocPart, OutOfMemory> {
+    match step {
+        Step::Open(name) => begun(name, Attributes::new(alloc)),
+        Step::With(tag, name, value) => {
+            let mut attributes = Attributes::new(alloc);
+            attributes.push(Attr {
+                name: Text::fixed(name),
+                value: Some(Text::fixed(value)),
+            })?;
+            begun(tag, attributes)
         }
+        Step::Alone(tag, name) => {
+            let mut attributes = Attributes::new(alloc);
+            attributes.push(Attr {
+                name: Text::fixed(name),
+                value: None,
+            })?;
+            begun(tag, attributes)
+        }
+        Step::Close => Ok(DocPart::End),
+        Step::Words(words) => Ok(DocPart::Text(Text::fixed(words))),
     }
-    Ok(Doc { nodes })
 }
 
-fn add_attribute(open: &mut Vec<Unfinished>, attribute: Attr) -> Result<(), OutOfMemory> {
-    match open.last_mut() {
-        Some(element) => element.attributes.push(attribute),
-        None => Ok(()),
-    }
-}
-
-fn add_node(
-    nodes: &mut Items<DocNode>,
-    open: &mut Vec<Unfinished>,
-    node: DocNode,
-) -> Result<(), OutOfMemory> {
-    match open.last_mut() {
-        Some(element) => Ok(element.kids.push(node)?),
-        None => Ok(nodes.push(node)?),
-    }
+fn begun(name: &'static str, attributes: Attributes) -> Result<DocPart, OutOfMemory> {
+    Ok(DocPart::Element {
+        name: Text::fixed(name),
+        attributes,
+    })
 }
 
 use Step::{Alone, Close, Open, With, Words};
@@ -122,10 +77,7 @@ static PRINTED: [(&[Step], &str); 22] = [
     (&[Words("a"), Open("p"), Words("b"), Close], "a<p>b</p>"),
     (&[Words("a"), Open("br"), Close, Words("b")], "a<br/>b"),
     (&[Open("br"), Words("x"), Close, Words("y")], "<br/>y"),
-    (
-        &[Open("hr"), With("class", "x"), Close],
-        "<hr class=\"x\"/>",
-    ),
+    (&[With("hr", "class", "x"), Close], "<hr class=\"x\"/>"),
     (
         &[
             Open("div"),
@@ -139,21 +91,18 @@ static PRINTED: [(&[Step], &str); 22] = [
         ],
         "<div><div><b>t</b></div>u</div>",
     ),
+    (&[With("p", "class", "x"), Close], "<p class=\"x\"></p>"),
     (
-        &[Open("p"), With("class", "x"), With("id", "i"), Close],
-        "<p class=\"x\" id=\"i\"></p>",
-    ),
-    (
-        &[Open("div"), Alone("hidden"), With("title", ""), Close],
-        "<div hidden title=\"\"></div>",
+        &[Alone("div", "hidden"), With("b", "title", ""), Close, Close],
+        "<div hidden><b title=\"\"></b></div>",
     ),
     (&[Words("\"&'<>")], "&quot;&amp;&#x27;&lt;&gt;"),
     (
-        &[Open("p"), With("title", "a\"<b"), Close],
+        &[With("p", "title", "a\"<b"), Close],
         "<p title=\"a&quot;&lt;b\"></p>",
     ),
     (
-        &[Open("template"), With("id", "B:0"), Close],
+        &[With("template", "id", "B:0"), Close],
         "<template id=\"B:0\"></template>",
     ),
     (&[Words("Grüße")], "Grüße"),

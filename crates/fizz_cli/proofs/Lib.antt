@@ -1,6 +1,7 @@
 pub mod Attributes
 pub mod CallsLemmas
 pub mod RefusalsLemmas
+pub mod RenderingLemmas
 pub mod StepsLemmas
 pub mod Documents
 pub mod LexemeLists

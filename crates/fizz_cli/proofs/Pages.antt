@@ -148,13 +148,13 @@ seen_whole machine prefix bytes view kept s = record {
 }
 
 -- the settled document of the view is that of the page
-pub shows : (prefix bytes : List ℕ) (view : Seen) (nodes : List DocNode) (out : List ℕ) → SeesWhole (nothing_run prefix) bytes view → settled_of (seen view.items) ≡ Some nodes →
+pub shows : (prefix bytes : List ℕ) (view : Seen) (nodes : List DocNode) (out : List ℕ) → SeesWhole (nothing_run prefix) bytes view → settled_of (seen view.parts) ≡ Some nodes →
     out ≡ printed_nodes nodes → ShowsDocument prefix bytes out
 shows prefix bytes view nodes out s settled printed =
     (nodes, record { built = s.built; whole = s.run; settled = ap settled_of (sym s.is) ∙ settled }, printed)
 
 -- what is pending in the view is pending in the page
-pub pending_page : (prefix bytes : List ℕ) (view : Seen) (found : PageFault) → SeesWhole (nothing_run prefix) bytes view → IsPendingView (seen view.items) found →
+pub pending_page : (prefix bytes : List ℕ) (view : Seen) (found : PageFault) → SeesWhole (nothing_run prefix) bytes view → IsPendingView (seen view.parts) found →
     RefusesPageBytes prefix bytes found
 pending_page prefix bytes view found s p =
     let q : IsPendingView (view_of prefix s.built.dom.forest) found = subst (λ (v : View). IsPendingView v found) s.is p in

@@ -1,5 +1,5 @@
 -- Facts about refusals: what is accepted is not refused, and files are refused for one thing at most.
-use Rattle.std.proofs.Common.{◌≡◌, ℕ, ◌<◌, ◌≤◌, ◌⊎◌, List, length, Option, refl, sym, ◌∙◌, ap, subst, inl, inr, arith}
+use Rattle.std.proofs.Common.{◌≡◌, ℕ, ◌<◌, ◌≤◌, ◌⊎◌, List, [], length, Option, Result, Ok, Err, refl, sym, ◌∙◌, ap, subst, inl, inr, arith}
 use Rattle.std.proofs.lemmas.Bool.{cases_lt}
 use Rattle.std.proofs.lemmas.List.{take_all}
 use Rattle.std.specs.Str.{IsUtf8, IsValidUpTo}
@@ -15,7 +15,12 @@ use Rattle.document_machine.specs.declared.fault.MachineFault.TheVariants as fau
 use Rattle.fizz_cli.specs.AppFiles.{AcceptsApp, RefusesApp, RefusesAppBytes, most_app_bytes}
 use Rattle.fizz_cli.specs.PageFiles.{RefusesPage, RefusesPageBytes, ShowsFile, StaysPending, most_page_bytes}
 use Rattle.fizz_cli.specs.Rendering.{Means, RefusesRender}
-use Rattle.fizz_cli.specs.ScriptFiles.{AcceptsScript, IsEmptyScript, RefusesScript, RefusesScriptBytes, most_script_bytes}
+use Rattle.settle_script.specs.Scripts.{IsScript, script_of}
+use Rattle.settle_script.specs.declared.event.Event.{Event}
+use Rattle.settle_script.specs.declared.fault.ScriptFault as settle
+use Rattle.settle_script.specs.declared.fault.ScriptFault.TheVariants as settled
+use Rattle.serde_json.specs.Read.{read}
+use Rattle.fizz_cli.specs.ScriptFiles.{AcceptsScript, RefusesLines, RefusesScript, RefusesScriptBytes, most_script_bytes}
 use Rattle.fizz_cli.specs.Serving.{Accepts, Refuses}
 use Rattle.fizz_cli.specs.Source.{IsPageFile}
 use Rattle.fizz_cli.specs.declared.command.Command.{Command}
@@ -29,7 +34,7 @@ use Rattle.fizz_cli.specs.declared.refusal.Refusal.{Refusal}
 use Rattle.fizz_cli.specs.declared.refusal.ScriptFault.{ScriptFault}
 use Rattle.fizz_cli.specs.declared.refusal.ScriptFault.TheVariants as script
 use Rattle.fizz_cli.proofs.Pages.{MachineLaws, shown_sound}
-use Rattle.fizz_cli.proofs.StepsLemmas.{file_excludes, one_file_refusal, refuses_quiet}
+use Rattle.fizz_cli.proofs.StepsLemmas.{file_excludes, one_file_refusal, refuses_quiet, same_bytes as same_contents}
 
 -- component files
 
@@ -65,15 +70,85 @@ one_app name file a b p q = one_file_refusal App RefusesAppBytes most_app_bytes 
 
 -- scripts
 
-script_sound : (bytes : List ℕ) (f : ScriptFault) → IsEmptyScript bytes → RefusesScriptBytes bytes f → ⊥
-script_sound bytes script.Unbuilt empty r = r empty
+apart_results : {A E : Type 0} (r : Result A E) (a : A) (e : E) → r ≡ Ok a → r ≡ Err e → ⊥
+apart_results r a e p q = cc
 
-pub script_excludes : (name : List ℕ) (file : Option (List ℕ)) (refusal : Refusal) → AcceptsScript file → RefusesScript ⊥ name file refusal → ⊥
-script_excludes name file refusal a r =
-    file_excludes Script RefusesScriptBytes most_script_bytes name file a.bytes refusal a.is_file (λ f. script_sound a.bytes f a.empty) r
+same_results : {A E : Type 0} (r : Result A E) (a b : A) → r ≡ Ok a → r ≡ Ok b → a ≡ b
+same_results r a b p q = cc
+
+same_errors : {A E : Type 0} (r : Result A E) (a b : E) → r ≡ Err a → r ≡ Err b → a ≡ b
+same_errors r a b p q = cc
+
+-- what the reader of scripts calls a fault
+abbrev found_as : ScriptFault → settle.ScriptFault
+found_as script.NotJson = settled.NotJson
+found_as (script.TooManyEvents count) = settled.TooManyEvents count
+found_as (script.NotEvent index) = settled.NotEvent index
+found_as (script.DigestTooLong index size) = settled.DigestTooLong index size
+found_as (script.BadValue index) = settled.BadValue index
+found_as (script.SettledTwice index first) = settled.SettledTwice index first
+found_as script.Unbuilt = settled.OutOfMemory
+
+abbrev back : settle.ScriptFault → ScriptFault
+back settled.NotJson = script.NotJson
+back (settled.TooManyEvents count) = script.TooManyEvents count
+back (settled.NotEvent index) = script.NotEvent index
+back (settled.DigestTooLong index size) = script.DigestTooLong index size
+back (settled.BadValue index) = script.BadValue index
+back (settled.SettledTwice index first) = script.SettledTwice index first
+back settled.OutOfMemory = script.Unbuilt
+
+back-found_as : (f : ScriptFault) → back (found_as f) ≡ f
+back-found_as script.NotJson = refl
+back-found_as (script.TooManyEvents count) = refl
+back-found_as (script.NotEvent index) = refl
+back-found_as (script.DigestTooLong index size) = refl
+back-found_as (script.BadValue index) = refl
+back-found_as (script.SettledTwice index first) = refl
+back-found_as script.Unbuilt = refl
+
+record ScriptCause (bytes : List ℕ) (f : ScriptFault) : Type 0 where
+  pub given : IsUtf8 bytes → script_of (read bytes) ≡ Err (found_as f)
+  pub known : (f ≡ script.NotJson) ⊎ IsUtf8 bytes
+
+script_cause : (bytes : List ℕ) (f : ScriptFault) → RefusesScriptBytes bytes f → ScriptCause bytes f
+script_cause bytes script.NotJson r = record { given = r; known = inl refl }
+script_cause bytes (script.TooManyEvents count) r = record { given = λ utf8. r.1; known = inr r.0 }
+script_cause bytes (script.NotEvent index) r = record { given = λ utf8. r.1; known = inr r.0 }
+script_cause bytes (script.DigestTooLong index size) r = record { given = λ utf8. r.1; known = inr r.0 }
+script_cause bytes (script.BadValue index) r = record { given = λ utf8. r.1; known = inr r.0 }
+script_cause bytes (script.SettledTwice index first) r = record { given = λ utf8. r.1; known = inr r.0 }
+script_cause bytes script.Unbuilt r = absurd r
+
+script_sound : (bytes : List ℕ) (lines : List Event) (f : ScriptFault) → IsScript bytes lines → RefusesScriptBytes bytes f → ⊥
+script_sound bytes lines f s r = apart_results _ lines (found_as f) s.lines ((script_cause bytes f r).given s.text)
+
+pub script_excludes : (name : List ℕ) (file : Option (List ℕ)) (lines : List Event) (refusal : Refusal) → AcceptsScript file lines →
+    RefusesScript ⊥ name file refusal → ⊥
+script_excludes name file lines refusal a r =
+    file_excludes Script RefusesScriptBytes most_script_bytes name file a.bytes refusal a.is_file
+    (λ f. script_sound a.bytes lines f a.is_script) r
 
 one_script_fault : (bytes : List ℕ) (a b : ScriptFault) → RefusesScriptBytes bytes a → RefusesScriptBytes bytes b → a ≡ b
-one_script_fault bytes script.Unbuilt script.Unbuilt p q = refl
+one_script_fault bytes a b p q = by_known (script_cause bytes a p) (script_cause bytes b q) (script_cause bytes a p).known (script_cause bytes b q).known
+  where
+    told : ScriptCause bytes a → ScriptCause bytes b → IsUtf8 bytes → a ≡ b
+    told c d utf8 = sym (back-found_as a) ∙ (ap back (same_errors _ (found_as a) (found_as b) (c.given utf8) (d.given utf8)) ∙ back-found_as b)
+
+    by_known : ScriptCause bytes a → ScriptCause bytes b → (a ≡ script.NotJson) ⊎ IsUtf8 bytes → (b ≡ script.NotJson) ⊎ IsUtf8 bytes → a ≡ b
+    by_known c d (inl x) (inl y) = x ∙ sym y
+    by_known c d (inl x) (inr utf8) = told c d utf8
+    by_known c d (inr utf8) more = told c d utf8
+
+-- a script has one list of lines
+one_lines : (file : Option (List ℕ)) (a b : List Event) → AcceptsScript file a → AcceptsScript file b → a ≡ b
+one_lines file a b p q =
+    let same : q.bytes ≡ p.bytes = same_contents file q.bytes p.bytes q.is_file.found p.is_file.found in
+    same_results _ a b p.is_script.lines (ap (λ (bs : List ℕ). script_of (read bs)) (sym same) ∙ q.is_script.lines)
+
+pub lines_exclude : (name : List ℕ) (file : Option (List ℕ)) (refusal : Refusal) → AcceptsScript file [] → (lines : List Event) →
+    AcceptsScript file lines → RefusesLines name lines refusal → ⊥
+lines_exclude name file refusal empty lines a r = r.0 (one_lines file lines [] a empty)
 
 one_script : (name : List ℕ) (file : Option (List ℕ)) (a b : Refusal) → RefusesScript ⊥ name file a → RefusesScript ⊥ name file b → a ≡ b
 one_script name file a b p q = one_file_refusal Script RefusesScriptBytes most_script_bytes name file a b one_script_fault p q
@@ -144,21 +219,26 @@ one_page_refusal prefix laws ones name file a b p q =
 pub render_excludes : (at : Contents) (app script_name : List ℕ) (nodes : List DocNode) (refusal : Refusal) → Means at app script_name nodes →
     RefusesRender at app script_name ⊥ refusal → ⊥
 render_excludes at app script_name nodes refusal m (inl r) = app_excludes app (at app) nodes refusal m.is_app r
-render_excludes at app script_name nodes refusal m (inr r) = script_excludes script_name (at script_name) refusal m.is_script r.2
+render_excludes at app script_name nodes refusal m (inr (n, a, inl r)) = script_excludes script_name (at script_name) [] refusal m.is_script r
+render_excludes at app script_name nodes refusal m (inr (n, a, inr (lines, b, r))) = lines_exclude script_name (at script_name) refusal m.is_script lines b r
 
 pub one_render : (at : Contents) (app script_name : List ℕ) (a b : Refusal) → RefusesRender at app script_name ⊥ a →
     RefusesRender at app script_name ⊥ b → a ≡ b
 one_render at app script_name a b (inl p) (inl q) = one_app app (at app) a b p q
 one_render at app script_name a b (inl p) (inr q) = absurd (app_excludes app (at app) q.0 a q.1 p)
 one_render at app script_name a b (inr p) (inl q) = absurd (app_excludes app (at app) p.0 b p.1 q)
-one_render at app script_name a b (inr p) (inr q) = one_script script_name (at script_name) a b p.2 q.2
+one_render at app script_name a b (inr (m, x, inl p)) (inr (n, y, inl q)) = one_script script_name (at script_name) a b p q
+one_render at app script_name a b (inr (m, x, inl p)) (inr (n, y, inr (l, s, q))) = absurd (script_excludes script_name (at script_name) l a s p)
+one_render at app script_name a b (inr (m, x, inr (l, s, p))) (inr (n, y, inl q)) = absurd (script_excludes script_name (at script_name) l b s q)
+one_render at app script_name a b (inr (m, x, inr (l, s, p))) (inr (n, y, inr (k, t, q))) = p.1 ∙ sym q.1
 
 -- where the files counted no fault, what they hold is the cause
 pub refuses_at_rest : (at : Contents) (command : Command) (faulted : Type 0) (refusal : Refusal) → (faulted → ⊥) →
     Refuses at command faulted refusal → Refuses at command ⊥ refusal
 refuses_at_rest at (Render app script_name options workers) faulted refusal quiet (inl r) =
     inl (refuses_quiet App RefusesAppBytes faulted most_app_bytes app (at app) refusal quiet r)
-refuses_at_rest at (Render app script_name options workers) faulted refusal quiet (inr r) =
-    inr (r.0, r.1, refuses_quiet Script RefusesScriptBytes faulted most_script_bytes script_name (at script_name) refusal quiet r.2)
+refuses_at_rest at (Render app script_name options workers) faulted refusal quiet (inr (n, a, inl r)) =
+    inr (n, a, inl (refuses_quiet Script RefusesScriptBytes faulted most_script_bytes script_name (at script_name) refusal quiet r))
+refuses_at_rest at (Render app script_name options workers) faulted refusal quiet (inr (n, a, inr r)) = inr (n, a, inr r)
 refuses_at_rest at (Show file prefix) faulted refusal quiet r =
     refuses_quiet Page (RefusesPageBytes prefix) faulted most_page_bytes file (at file) refusal quiet r

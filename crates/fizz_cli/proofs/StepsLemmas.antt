@@ -2,7 +2,7 @@
 use Rattle.std.proofs.Common.{◌≡◌, ℕ, ◌⊎◌, List, length, Option, Some, None, Result, Ok, Err, Vec, Global, refl, sym, ◌∙◌, ap, subst, inl, inr, arith}
 use Rattle.fizz_outside.specs.FileContents.{Contents}
 use Rattle.fizz_cli.specs.Reports.{Change, FilesReport}
-use Rattle.fizz_cli.specs.Steps.{AcceptsOrRefuses, HasBadBytes, IsFile, IsLongFile, IsNotRead, IsOrMemory, ReadsFiles, RefusesFile}
+use Rattle.fizz_cli.specs.Steps.{AcceptsOrRefuses, FirstOrNext, HasBadBytes, IsFile, IsLongFile, IsNotRead, IsOrMemory, ReadsFiles, RefusesFile}
 use Rattle.fizz_cli.specs.declared.refusal.FileFault.{FileFault}
 use Rattle.fizz_cli.specs.declared.refusal.FileFault.TheVariants.{TooLong}
 use Rattle.fizz_cli.specs.declared.refusal.Refusal.{Refusal}
@@ -62,12 +62,26 @@ pub refuses_quiet : {F : Type 0} (fault_of : F → FileFault) (refuses : List �
 refuses_quiet fault_of refuses faulted most name file refusal quiet (inl r) = inl (not_read_quiet faulted most name file refusal quiet r)
 refuses_quiet fault_of refuses faulted most name file refusal quiet (inr r) = inr r
 
+-- with a fault counted elsewhere too
+
+not_read_more : (faulted more : Type 0) (most : ℕ) (name : List ℕ) (file : Option (List ℕ)) (refusal : Refusal) → (faulted → more) →
+    IsNotRead faulted most name file refusal → IsNotRead more most name file refusal
+not_read_more faulted more most name file refusal to (IsNotRead.unread is (inl f)) = IsNotRead.unread is (inl (to f))
+not_read_more faulted more most name file refusal to (IsNotRead.unread is (inr none)) = IsNotRead.unread is (inr none)
+not_read_more faulted more most name file refusal to (IsNotRead.too_long is long) = IsNotRead.too_long is long
+
+pub refuses_more : {F : Type 0} (fault_of : F → FileFault) (refuses : List ℕ → F → Type 0) (faulted more : Type 0) (most : ℕ) (name : List ℕ)
+    (file : Option (List ℕ)) (refusal : Refusal) → (faulted → more) → RefusesFile fault_of refuses faulted most name file refusal →
+    RefusesFile fault_of refuses more most name file refusal
+refuses_more fault_of refuses faulted more most name file refusal to (inl r) = inl (not_read_more faulted more most name file refusal to r)
+refuses_more fault_of refuses faulted more most name file refusal to (inr r) = inr r
+
 -- what is accepted is not refused
 
 apart : {A : Type 0} (file : Option A) (a : A) → file ≡ Some a → file ≡ None → ⊥
 apart file a some none = cc
 
-same_bytes : (file : Option (List ℕ)) (a b : List ℕ) → file ≡ Some a → file ≡ Some b → a ≡ b
+pub same_bytes : (file : Option (List ℕ)) (a b : List ℕ) → file ≡ Some a → file ≡ Some b → a ≡ b
 same_bytes file a b p q = cc
 
 not_long : (most : ℕ) (file : Option (List ℕ)) (bytes : List ℕ) → IsFile most file bytes → IsLongFile most file → ⊥
@@ -114,3 +128,21 @@ pub refused_for : {A F : Type 0} (accepts : List ℕ → A → Type 0) (refuses 
     given ≡ bytes → e ≡ Fault fault → AcceptsOrRefuses (accepts given) (refuses given) (Err e) → refuses bytes fault
 refused_for {A} {F} accepts refuses given bytes e fault same is r =
     subst (λ (bs : List ℕ). refuses bs fault) same (subst (λ (x : OrMemory F). AcceptsOrRefuses {A = A} (accepts given) (refuses given) (Err x)) is r)
+
+-- a step that accepts, and a test of what it accepts that refuses
+pub refuses_next : {A B : Type 0} (accepts : Contents → A → Type 0) (accepted : Contents → B → Type 0)
+    (refuses : Contents → Type 0 → Refusal → Type 0) (next : A → Refusal → Type 0) (files : Change FilesReport) (a : A)
+    (name : List ℕ) (fault : FileFault) (stop : OrMemory Refusal) → ReadsFiles accepts refuses files (Ok a) → next a (File name fault) →
+    IsOrMemory (File name fault) stop →
+    ReadsFiles accepted (λ at faulted. FirstOrNext (refuses at faulted) (accepts at) next) files (Err stop)
+refuses_next {A} {B} accepts accepted refuses next files a name fault stop read r s = record {
+  same = read.same;
+  later = read.later;
+  told = λ at told. by_cases at _ stop s (read.told at told);
+  untold = λ none other is. absurd (could_read {A = B} name other fault stop (Err stop) s refl is);
+}
+  where
+    by_cases : (at : Contents) (faulted : Type 0) (stop : OrMemory Refusal) → IsOrMemory (File name fault) stop → accepts at a →
+        AcceptsOrRefuses (accepted at) (FirstOrNext (refuses at faulted) (accepts at) next) (Err stop)
+    by_cases at faulted (Fault refusal) s told = inr (a, told, subst (λ (x : Refusal). next a x) (sym s) r)
+    by_cases at faulted NoMemory s told = tt

@@ -11,6 +11,7 @@ pub mod Reports
 pub mod Steps
 pub mod AppFiles
 pub mod ScriptFiles
+pub mod ScriptFaults
 pub mod PageFiles
 pub mod Feeding
 pub mod Rendering

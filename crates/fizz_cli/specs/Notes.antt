@@ -70,18 +70,33 @@ value_of (Hash bytes) = hash bytes.now
 abbrev pub entry_of : Field → Entry
 entry_of field = record { name = field.name.now; value = value_of field.value }
 
--- a row without fields, and one with a place
+-- a row without fields, one with a number, and one with a place
 abbrev pub bare : List ℕ → Row
 bare label = record { label = label; fields = [] }
 
+abbrev pub counted_by : List ℕ → List ℕ → ℕ → Row
+counted_by label name n = record { label = label; fields = record { name = name; value = number n } ∷ [] }
+
 abbrev pub row_at : List ℕ → ℕ → Row
-row_at label at = record { label = label; fields = record { name = codes "at"; value = number at } ∷ [] }
+row_at label at = counted_by label (codes "at") at
 
 abbrev pub app_row : AppFault → Row
-app_row (app.NotUtf8 valid) = record { label = codes "NotUtf8"; fields = record { name = codes "valid"; value = number valid } ∷ [] }
+app_row (app.NotUtf8 valid) = counted_by (codes "NotUtf8") (codes "valid") valid
 app_row app.Unbuilt = bare (codes "Unbuilt")
 
 abbrev pub script_row : ScriptFault → Row
+script_row script.NotJson = bare (codes "NotJson")
+script_row (script.TooManyEvents count) = counted_by (codes "TooManyEvents") (codes "count") count
+script_row (script.NotEvent index) = counted_by (codes "NotEvent") (codes "index") index
+script_row (script.DigestTooLong index size) = record {
+  label = codes "DigestTooLong";
+  fields = record { name = codes "index"; value = number index } ∷ record { name = codes "length"; value = number size } ∷ [];
+}
+script_row (script.BadValue index) = counted_by (codes "BadValue") (codes "index") index
+script_row (script.SettledTwice index first) = record {
+  label = codes "SettledTwice";
+  fields = record { name = codes "index"; value = number index } ∷ record { name = codes "first"; value = number first } ∷ [];
+}
 script_row script.Unbuilt = bare (codes "Unbuilt")
 
 abbrev pub page_row : PageFault → Row
@@ -92,11 +107,10 @@ page_row (page.NoSuchId at id) = record {
   fields = record { name = codes "at"; value = number at } ∷ record { name = codes "id"; value = words id } ∷ [];
 }
 page_row (page.NotBoundary at) = row_at (codes "NotBoundary") at
-page_row (page.StillPending count) =
-    record { label = codes "StillPending"; fields = record { name = codes "count"; value = number count } ∷ [] }
+page_row (page.StillPending count) = counted_by (codes "StillPending") (codes "count") count
 
 abbrev pub row_of : FileFault → Row
-row_of (TooLong most) = record { label = codes "TooLong"; fields = record { name = codes "most"; value = number most } ∷ [] }
+row_of (TooLong most) = counted_by (codes "TooLong") (codes "most") most
 row_of (App fault) = app_row fault
 row_of (Script fault) = script_row fault
 row_of (Page fault) = page_row fault

@@ -1,27 +1,42 @@
--- The step that reads a settling script.
-use Rattle.std.specs.Prelude.{◌≡◌, ℕ, ◌⊎◌, List, codes, Option}
-use Rattle.fizz_cli.specs.Steps.{IsFile, RefusesFile}
+-- The step that reads a settling script, and the one that refuses lines.
+use Rattle.std.specs.Prelude.{◌≡◌, ◌≢◌, ℕ, List, [], Option}
+use Rattle.settle_script.specs.Scripts.{IsScript, IsFaultOf}
+use Rattle.settle_script.specs.declared.event.Event.{Event}
+use Rattle.settle_script.specs.declared.fault.ScriptFault.TheVariants as settle
+use Rattle.fizz_cli.specs.Steps.{FirstOrNext, IsFile, RefusesFile}
 use Rattle.fizz_cli.specs.declared.refusal.FileFault.TheVariants.{Script}
 use Rattle.fizz_cli.specs.declared.refusal.Refusal.{Refusal}
+use Rattle.fizz_cli.specs.declared.refusal.Refusal.TheVariants.{File}
 use Rattle.fizz_cli.specs.declared.refusal.ScriptFault.{ScriptFault}
-use Rattle.fizz_cli.specs.declared.refusal.ScriptFault.TheVariants.{Unbuilt}
+use Rattle.fizz_cli.specs.declared.refusal.ScriptFault.TheVariants.{NotJson, TooManyEvents, NotEvent, DigestTooLong, BadValue, SettledTwice, Unbuilt}
 
 abbrev pub most_script_bytes : ℕ
 most_script_bytes = 16777216
 
--- A script of no line is `[]`, alone or with a line feed behind it.
-abbrev pub IsEmptyScript : List ℕ → Type 0
-IsEmptyScript bytes = (bytes ≡ codes "[]") ⊎ (bytes ≡ codes "[]\n")
-
 -- what the bytes are refused for
 abbrev pub RefusesScriptBytes : List ℕ → ScriptFault → Type 0
-RefusesScriptBytes bytes Unbuilt = IsEmptyScript bytes → ⊥
+RefusesScriptBytes bytes NotJson = IsFaultOf bytes settle.NotJson
+RefusesScriptBytes bytes (TooManyEvents count) = IsFaultOf bytes (settle.TooManyEvents count)
+RefusesScriptBytes bytes (NotEvent index) = IsFaultOf bytes (settle.NotEvent index)
+RefusesScriptBytes bytes (DigestTooLong index size) = IsFaultOf bytes (settle.DigestTooLong index size)
+RefusesScriptBytes bytes (BadValue index) = IsFaultOf bytes (settle.BadValue index)
+RefusesScriptBytes bytes (SettledTwice index first) = IsFaultOf bytes (settle.SettledTwice index first)
+RefusesScriptBytes bytes Unbuilt = ⊥
 
--- The script is accepted.
-pub record AcceptsScript (file : Option (List ℕ)) : Type 0 where
+-- The script is accepted, and has these lines.
+pub record AcceptsScript (file : Option (List ℕ)) (lines : List Event) : Type 0 where
   pub bytes : List ℕ
   pub is_file : IsFile most_script_bytes file bytes
-  pub empty : IsEmptyScript bytes
+  pub is_script : IsScript bytes lines
 
 abbrev pub RefusesScript : Type 0 → List ℕ → Option (List ℕ) → Refusal → Type 0
 RefusesScript faulted name file refusal = RefusesFile Script RefusesScriptBytes faulted most_script_bytes name file refusal
+
+-- A script with a line isn't served yet.
+abbrev pub RefusesLines : List ℕ → List Event → Refusal → Type 0
+RefusesLines name lines refusal = (lines ≢ []) × (refusal ≡ File name (Script Unbuilt))
+
+-- The script is refused, or it is accepted and has a line.
+abbrev pub RefusesEmptyScript : Type 0 → List ℕ → Option (List ℕ) → Refusal → Type 0
+RefusesEmptyScript faulted name file refusal =
+    FirstOrNext (RefusesScript faulted name file) (AcceptsScript file) (RefusesLines name) refusal

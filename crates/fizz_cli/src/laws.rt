@@ -4,6 +4,7 @@ ghost use Rattle.std.specs.Prelude.{◌≡◌, List, Option, ℕ};
 ghost use Rattle.std.specs.Str.{IsUtf8};
 ghost use Rattle.dom_forest.specs.declared.document.DocNode.{DocNode as Node};
 ghost use Rattle.fizz_outside.specs.FileContents.{Contents};
+ghost use Rattle.settle_script.specs.declared.event.Event.{Event};
 ghost use Rattle.fizz_cli.specs.AppFiles.{AcceptsApp, RefusesApp};
 ghost use Rattle.fizz_cli.specs.Documents.{IsDocument};
 ghost use Rattle.fizz_cli.specs.PageFiles.{RefusesPage, ShowsFile};
@@ -32,8 +33,8 @@ pub fn one_document()
 pub fn laws_of_steps()
     ensures app { (name : List ℕ) (file : Option (List ℕ)) (nodes : List Node) (cause : Cause) →
         AcceptsApp file nodes → RefusesApp ⊥ name file cause → ⊥ }
-    ensures script { (name : List ℕ) (file : Option (List ℕ)) (cause : Cause) →
-        AcceptsScript file → RefusesScript ⊥ name file cause → ⊥ }
+    ensures script { (name : List ℕ) (file : Option (List ℕ)) (lines : List Event) (cause : Cause) →
+        AcceptsScript file lines → RefusesScript ⊥ name file cause → ⊥ }
     ensures page { (prefix name : List ℕ) (file : Option (List ℕ)) (out : List ℕ) (cause : Cause) → IsUtf8 prefix →
         ShowsFile prefix file out → RefusesPage prefix ⊥ name file cause → ⊥ }
 {

@@ -4,7 +4,7 @@ ghost use Rattle.std.specs.Prelude.{◌≡◌, ◌++◌, ◌<◌, IfOk, OnOk, co
 ghost use Rattle.std.specs.List.{flat_map};
 ghost use Rattle.std.specs.Fmt.{decimal};
 ghost use Rattle.std.specs.Char.{digit_char};
-ghost use Rattle.fizz_cli.specs.Notes.{after_dot, app_row, steps_text, entry_of, entry_text, line_of, note_of, number, page_row, row_at, row_of, row_text, script_row, two_digits, value_of, value_text, words};
+ghost use Rattle.fizz_cli.specs.Notes.{after_dot, app_row, counted_by, steps_text, entry_of, entry_text, line_of, note_of, number, page_row, row_at, row_of, row_text, script_row, two_digits, value_of, value_text, words};
 
 use crate::refusal::{AppFault, FileFault, PageFault, Refusal, ScriptFault};
 use std::alloc::{AllocError, Global};
@@ -110,6 +110,31 @@ fn push_script_fault(
     ensures { OnOk result (note.new.items ≡ note.old.items ++ row_text (script_row fault.now)) }
 {
     match fault {
+        ScriptFault::NotJson => push_row(alloc, note, "NotJson", &[]),
+        ScriptFault::TooManyEvents { count } => {
+            push_row(
+                alloc,
+                note,
+                "TooManyEvents",
+                &[count_field("count", *count as u64)],
+            )
+        }
+        ScriptFault::NotEvent { index } => push_line(alloc, note, "NotEvent", *index),
+        ScriptFault::DigestTooLong { index, length } => {
+            let fields = [
+                count_field("index", *index as u64),
+                count_field("length", *length as u64),
+            ];
+            push_row(alloc, note, "DigestTooLong", &fields)
+        }
+        ScriptFault::BadValue { index } => push_line(alloc, note, "BadValue", *index),
+        ScriptFault::SettledTwice { index, first } => {
+            let fields = [
+                count_field("index", *index as u64),
+                count_field("first", *first as u64),
+            ];
+            push_row(alloc, note, "SettledTwice", &fields)
+        }
         ScriptFault::Unbuilt => push_row(alloc, note, "Unbuilt", &[]),
     }
 }
@@ -139,6 +164,14 @@ fn push_placed(alloc: Global, note: &mut Vec<u8>, label: &str, at: usize) -> Res
     ensures { OnOk result (note.new.items ≡ note.old.items ++ row_text (row_at label.now at)) }
 {
     push_row(alloc, note, label, &[count_field("at", at as u64)])
+}
+
+/// A label with the number of a line.
+fn push_line(alloc: Global, note: &mut Vec<u8>, label: &str, index: u32) -> Result<(), AllocError>
+    ensures { OnOk result (note.new.items
+        ≡ note.old.items ++ row_text (counted_by label.now (codes "index") index)) }
+{
+    push_row(alloc, note, label, &[count_field("index", index as u64)])
 }
 
 fn count_field<'a>(name: &'static str, value: u64) -> Field<'a>

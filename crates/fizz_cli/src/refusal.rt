@@ -41,9 +41,21 @@ pub enum AppFault {
     Unbuilt,
 }
 
-/// What the bytes of a settling script are refused for.
+/// What the bytes of a settling script are refused for. `index` is the number of a line, from 0.
 #[derive(Debug, Drop)]
 pub enum ScriptFault {
+    /// They are no JSON, or no array.
+    NotJson,
+    /// There are more than 65,536 lines: so many.
+    TooManyEvents { count: u32 },
+    /// The line has none of the forms.
+    NotEvent { index: u32 },
+    /// The digest has more than 1,024 bytes: so many.
+    DigestTooLong { index: u32, length: usize },
+    /// The value holds a number that isn't whole or no i64, or lies in more than 100 lists and records.
+    BadValue { index: u32 },
+    /// The line `first` has settled the name.
+    SettledTwice { index: u32, first: u32 },
     /// They have a form that isn't served.
     Unbuilt,
 }

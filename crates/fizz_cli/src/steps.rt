@@ -7,4 +7,4 @@ mod script_file;
 
 pub(crate) use app_file::read_app;
 pub(crate) use page_file::read_page;
-pub(crate) use script_file::read_script;
+pub(crate) use script_file::read_empty_script;

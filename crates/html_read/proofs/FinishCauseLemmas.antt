@@ -46,7 +46,7 @@ text_ends (toks.Comment which from) h t = absurd (none_true t)
 text_ends (toks.Script body from) h t = absurd (none_true t)
 
 -- What is a whole token is a text, between its characters.
-whole_is_text : (tok : Token) (rest : List ℕ) (mode : Mode) → mode_of rest ≡ Some mode → IsToken tok → rest ≡ spelling tok → mode ≡ Text Whole
+pub whole_is_text : (tok : Token) (rest : List ℕ) (mode : Mode) → mode_of rest ≡ Some mode → IsToken tok → rest ≡ spelling tok → mode ≡ Text Whole
 whole_is_text tok rest mode e h s =
     ⊎_elim (λ t. some_mode (mode_of rest) mode (Text Whole) e (ap mode_of s ∙ text_ends tok h t)) (λ f. absurd (none_mode (mode_of rest) mode (ap mode_of s ∙ other_mode tok h f) e)) (cases_Bool (is_text tok))
 
@@ -71,7 +71,7 @@ escaped_none (b ∷ text) e = absurd (no_nothing (length (escape_of (b ∷ text)
     no_nothing : (n : ℕ) → n ≡ 0 → 0 < n → ⊥
     no_nothing n z l = omega arith
 
-text_some : (tok : Token) → IsToken tok → is_text tok ≡ true → spelling tok ≢ []
+pub text_some : (tok : Token) → IsToken tok → is_text tok ≡ true → spelling tok ≢ []
 text_some (toks.Start name attributes from) h t e = absurd (none_true t)
 text_some (toks.End name from) h t e = absurd (none_true t)
 text_some (toks.Void name attributes from) h t e = absurd (none_true t)

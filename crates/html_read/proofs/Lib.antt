@@ -17,3 +17,4 @@ pub mod FinishCauseLemmas
 pub mod TokenizesLemmas
 pub mod SplitsLemmas
 pub mod StaysLemmas
+pub mod RestsLemmas

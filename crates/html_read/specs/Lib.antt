@@ -5,3 +5,4 @@ pub mod Machine
 pub mod Building
 pub mod Scanning
 pub mod Reading
+pub mod Rests

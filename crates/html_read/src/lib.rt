@@ -7,6 +7,7 @@ mod laws;
 mod machine;
 mod place;
 mod reader;
+mod rests;
 #[cfg(test)]
 mod tests;
 mod token;
@@ -17,4 +18,5 @@ pub use fault::{FinishFault, ReadFault, ReadKind};
 pub use html_names::CommentKind;
 pub use laws::laws_of_tokens;
 pub use reader::Reader;
+pub use rests::laws_of_rests;
 pub use token::{Body, Token};

@@ -1,7 +1,8 @@
 use crate::fault::{FinishFault, ReadFault, ReadKind};
 use crate::reader::Reader;
-use crate::token::{CommentKind, Token};
+use crate::token::Token;
 use fizz_text::Attributes;
+use html_names::CommentKind;
 use std::alloc::{AllocError, Global};
 use std::test::Fail;
 
@@ -164,6 +165,27 @@ fn reads_any_cutting(rt: HostRuntime) -> Result<(), Fail> {
         }
         assert_eq!(rt; out.as_str(), TOKENS, "cut at {cut}");
     }
+    Ok(())
+}
+
+/// A text with characters of each length and each replacement is one token, however long.
+#[test]
+fn reads_long_texts(rt: HostRuntime) -> Result<(), Fail> {
+    let alloc = rt.alloc();
+    let mut page = Vec::new(alloc);
+    let mut wanted = String::new(alloc);
+    wanted.push_str("text ")?;
+    for _ in 0..1_000 {
+        page.extend_from_slice("plain é € 😀 &amp;&lt;&gt;&quot;&#x27;".as_bytes())?;
+        wanted.push_str("plain é € 😀 &<>\"'")?;
+    }
+    wanted.push_str(" 0|")?;
+    let mut reader = Reader::new(alloc);
+    assert!(rt; reader.feed(&page)?.is_empty());
+    let last = reader.finish()?.ok_or("no last text")?;
+    let mut text = String::new(alloc);
+    describe(&mut text, alloc, &last)?;
+    assert!(rt; text.as_str() == wanted.as_str());
     Ok(())
 }
 

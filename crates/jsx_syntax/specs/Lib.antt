@@ -7,3 +7,4 @@ pub mod Refusals
 pub mod Examples
 pub mod Parsing
 pub mod Advances
+pub mod Rules

@@ -4,6 +4,7 @@
 //! returns a node: an element, a value, or a choice or list of nodes.
 #![tactic(auto)]
 
+mod app;
 mod expr;
 mod fault;
 mod file;
@@ -12,9 +13,11 @@ mod name;
 mod node;
 mod parser;
 mod part;
+mod rule;
 mod stack;
 mod state;
 
+pub use app::App;
 pub use expr::Expr;
 pub use fault::{SyntaxFault, Wanted};
 pub use file::{Component, File, Stmt};
@@ -22,3 +25,4 @@ pub use laws::{file_or_first_refused, one_file, worked_files};
 pub use name::{Entry, Name};
 pub use node::{Node, Prop};
 pub use parser::parse;
+pub use rule::Rule;

@@ -3,7 +3,7 @@
 ghost use Rattle.std.specs.Prelude.{◌+◌, ◌<◌, ◌≤◌, ◌^◌, length};
 ghost use Rattle.document_machine.specs.MachineState.{fed};
 
-use super::views::push_items;
+use super::views::push_parts;
 use crate::{Machine, MachineFault, View};
 use fizz_text::Text;
 use std::alloc::{AllocError, Global};
@@ -41,7 +41,7 @@ fn told(alloc: Global, outcome: Result<View, MachineFault>) -> Result<String, Fa
 
 fn outline(alloc: Global, view: &View) -> Result<String, Fail> {
     let mut out = Vec::new(alloc);
-    push_items(&mut out, view.items.as_slice())?;
+    push_parts(&mut out, view.parts.as_slice())?;
     match String::from_utf8(out) {
         Ok(text) => Ok(text),
         Err(_) => Err(Fail::from("no text")),

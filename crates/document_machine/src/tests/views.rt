@@ -1,5 +1,5 @@
 use crate::viewing::view_of;
-use crate::{BoundaryStatus, Item, SettledRefused, View};
+use crate::{BoundaryStatus, SettledRefused, View, ViewPart};
 use dom_forest::{Dom, DomNode, Mark, NewNode, NodeId, print_doc};
 use fizz_text::{Attr, Attributes, Text};
 use std::alloc::Global;
@@ -95,36 +95,44 @@ fn build(alloc: Global, steps: &[Step]) -> Result<Dom, Fail> {
     Ok(dom)
 }
 
-/// The items in one line: elements by their name with their items in parentheses, texts after `'`, and boundaries as
-/// `$`, `?` or `!`, the digest, and their items in brackets.
-pub(super) fn push_items(out: &mut Vec<u8>, items: &[Item]) -> Result<(), Fail> {
-    for (place, item) in items.iter().enumerate() {
-        if place != 0 {
-            out.push(b' ')?;
+/// The parts in one line: elements by their name with what they hold in parentheses, texts after `'`, and boundaries as
+/// `$`, `?` or `!`, the digest, and what they hold in brackets.
+pub(super) fn push_parts(out: &mut Vec<u8>, parts: &[ViewPart]) -> Result<(), Fail> {
+    for part in parts {
+        push_part(out, part)?;
+    }
+    Ok(())
+}
+
+fn push_part(out: &mut Vec<u8>, part: &ViewPart) -> Result<(), Fail> {
+    match part {
+        ViewPart::Element { name, .. } => {
+            separate(out)?;
+            out.extend_from_slice(name.as_bytes())?;
+            out.push(b'(')?;
         }
-        match item {
-            Item::Element { name, items, .. } => {
-                out.extend_from_slice(name.as_bytes())?;
-                out.push(b'(')?;
-                push_items(out, items.as_slice())?;
-                out.push(b')')?;
-            }
-            Item::Text(text) => {
-                out.push(b'\'')?;
-                out.extend_from_slice(text.as_bytes())?;
-            }
-            Item::Boundary {
-                kind,
-                digest,
-                items,
-            } => {
-                out.push(sign_of(*kind))?;
-                out.extend_from_slice(digest.as_bytes())?;
-                out.push(b'[')?;
-                push_items(out, items.as_slice())?;
-                out.push(b']')?;
-            }
+        ViewPart::Text(text) => {
+            separate(out)?;
+            out.push(b'\'')?;
+            out.extend_from_slice(text.as_bytes())?;
         }
+        ViewPart::Boundary { kind, digest } => {
+            separate(out)?;
+            out.push(sign_of(*kind))?;
+            out.extend_from_slice(digest.as_bytes())?;
+            out.push(b'[')?;
+        }
+        ViewPart::EndOfElement => out.push(b')')?,
+        ViewPart::EndOfBoundary => out.push(b']')?,
+    }
+    Ok(())
+}
+
+/// A space after a sibling.
+fn separate(out: &mut Vec<u8>) -> Result<(), Fail> {
+    match out.last() {
+        None | Some(b'(' | b'[') => {}
+        Some(_) => out.push(b' ')?,
     }
     Ok(())
 }
@@ -312,7 +320,7 @@ fn check_views(
     for (prefix, steps, outline) in cases {
         let view = view_of(alloc, &build(alloc, steps)?, &Text::fixed(prefix))?;
         let mut out = Vec::new(alloc);
-        push_items(&mut out, view.items.as_slice())?;
+        push_parts(&mut out, view.parts.as_slice())?;
         assert_eq!(rt; out.as_slice(), outline.as_bytes());
     }
     Ok(())

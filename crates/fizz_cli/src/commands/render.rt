@@ -11,7 +11,7 @@ ghost use Rattle.fizz_cli.specs.declared.command.Options.{Options};
 
 use crate::refusal::Refusal;
 use crate::sending::write;
-use crate::steps::{read_app, read_script};
+use crate::steps::{read_app, read_empty_script};
 use crate::stop::{OrMemory, Stop};
 use fizz_outside::{Files, Sink};
 use fizz_text::Text;
@@ -44,6 +44,6 @@ fn read<F: Files>(
         (files_change (F.files files.old) (F.faults files.old) (F.files files.new) (F.faults files.new)) result }
 {
     let page = read_app(alloc, files, app)?;
-    read_script(alloc, files, script)?;
+    read_empty_script(alloc, files, script)?;
     Ok(page)
 }

@@ -1,6 +1,7 @@
 //! A page file's settled document, as it is printed.
 
 ghost use Rattle.std.specs.Prelude.{◌≡◌, ◌<◌, ◌+◌, ◌^◌, ℕ, List, [], Some, IfErr, OnOk, length};
+ghost use Rattle.dom_forest.specs.Documents.{nodes_in};
 ghost use Rattle.document_machine.specs.MachineState.{HasRun, SeesWhole, fed, nothing_run};
 ghost use Rattle.document_machine.specs.Settled.{settled_of};
 ghost use Rattle.document_machine.specs.Shown.{seen};
@@ -86,8 +87,8 @@ fn feed_all(machine: &mut Machine, bytes: &[u8]) -> Result<(), MachineFault>
 
 /// The settled document of a view.
 fn settle(alloc: Global, view: &View) -> Result<Doc, OrMemory<PageFault>>
-    ensures { AcceptsOrRefuses (λ doc. settled_of (seen view.now.items) ≡ Some doc.nodes)
-        (IsPendingView (seen view.now.items)) result }
+    ensures { AcceptsOrRefuses (λ doc. settled_of (seen view.now.parts) ≡ Some (nodes_in doc.parts))
+        (IsPendingView (seen view.now.parts)) result }
 {
     match view.settled(alloc) {
         Ok(doc) => Ok(doc),

@@ -6,195 +6,104 @@ use std::sync::Wait;
 use std::test::Fail;
 use std::thread::Threads;
 
-/// A call of `fizz` over memory, and how it ends.
-struct Call {
-    words: &'static [&'static str],
-    app: &'static [u8],
-    script: &'static [u8],
-    /// The numbers of the calls that fail: of the files, of the output and of the notes.
-    fails: [&'static [u32]; 3],
-    status: u8,
-    out: &'static str,
-    notes: &'static str,
-}
+const RENDER: &[&str] = &["render", "a.jsx", "s.json"];
 
 const PAGE: &[u8] = b"function App() { return <div className=\"a\">Hi</div>; }\n";
 
 const HTML: &str = "<div class=\"a\">Hi</div>";
 
-const CALLS: [Call; 19] = [
-    Call {
-        words: &["render", "a.jsx", "s.json"],
-        app: PAGE,
-        script: b"[]",
-        fails: [&[], &[], &[]],
-        status: 0,
-        out: HTML,
-        notes: "",
-    },
-    Call {
-        words: &["render", "a.jsx", "s.json"],
-        app: PAGE,
-        script: b"[]\n",
-        fails: [&[], &[], &[]],
-        status: 0,
-        out: HTML,
-        notes: "",
-    },
-    Call {
-        words: &[],
-        app: PAGE,
-        script: b"[]",
-        fails: [&[], &[], &[]],
-        status: 2,
-        out: "",
-        notes: "usage\n",
-    },
-    Call {
-        words: &["render"],
-        app: PAGE,
-        script: b"[]",
-        fails: [&[], &[], &[]],
-        status: 2,
-        out: "",
-        notes: "usage\n",
-    },
-    Call {
-        words: &["render", "a.jsx"],
-        app: PAGE,
-        script: b"[]",
-        fails: [&[], &[], &[]],
-        status: 2,
-        out: "",
-        notes: "usage\n",
-    },
-    Call {
-        words: &["render", "a.jsx", "s.json", "x"],
-        app: PAGE,
-        script: b"[]",
-        fails: [&[], &[], &[]],
-        status: 2,
-        out: "",
-        notes: "usage\n",
-    },
-    Call {
-        words: &["show", "a.jsx", "s.json"],
-        app: PAGE,
-        script: b"[]",
-        fails: [&[], &[], &[]],
-        status: 2,
-        out: "",
-        notes: "usage\n",
-    },
-    Call {
-        words: &["render", "b.jsx", "s.json"],
-        app: PAGE,
-        script: b"[]",
-        fails: [&[], &[], &[]],
-        status: 3,
-        out: "",
-        notes: "cannot read b.jsx\n",
-    },
-    Call {
-        words: &["render", "a.jsx", "t.json"],
-        app: PAGE,
-        script: b"[]",
-        fails: [&[], &[], &[]],
-        status: 3,
-        out: "",
-        notes: "cannot read t.json\n",
-    },
-    Call {
-        words: &["render", "a.jsx", "s.json"],
-        app: PAGE,
-        script: b"[]",
-        fails: [&[0], &[], &[]],
-        status: 3,
-        out: "",
-        notes: "cannot read a.jsx\n",
-    },
-    Call {
-        words: &["render", "a.jsx", "s.json"],
-        app: PAGE,
-        script: b"[]",
-        fails: [&[1], &[], &[]],
-        status: 3,
-        out: "",
-        notes: "cannot read s.json\n",
-    },
-    Call {
-        words: &["render", "a.jsx", "s.json"],
-        app: PAGE,
-        script: b"[]",
-        fails: [&[], &[0], &[]],
-        status: 7,
-        out: "",
-        notes: "",
-    },
-    Call {
-        words: &["render"],
-        app: PAGE,
-        script: b"[]",
-        fails: [&[], &[], &[0]],
-        status: 7,
-        out: "",
-        notes: "",
-    },
-    Call {
-        words: &["render", "b.jsx", "s.json"],
-        app: PAGE,
-        script: b"[]",
-        fails: [&[], &[], &[0]],
-        status: 7,
-        out: "",
-        notes: "",
-    },
-    Call {
-        words: &["render", "a.jsx", "s.json"],
-        app: b"function App() {\xff",
-        script: b"[]",
-        fails: [&[], &[], &[]],
-        status: 4,
-        out: "",
-        notes: "a.jsx: NotUtf8 valid=16\n",
-    },
-    Call {
-        words: &["render", "a.jsx", "s.json"],
-        app: b"function App() { return null; }\n",
-        script: b"[]",
-        fails: [&[], &[], &[]],
-        status: 4,
-        out: "",
-        notes: "a.jsx: Unbuilt\n",
-    },
-    Call {
-        words: &["render", "a.jsx", "s.json"],
-        app: b"",
-        script: b"x",
-        fails: [&[], &[], &[]],
-        status: 4,
-        out: "",
-        notes: "a.jsx: Unbuilt\n",
-    },
-    Call {
-        words: &["render", "a.jsx", "s.json"],
-        app: PAGE,
-        script: b"[ ]",
-        fails: [&[], &[], &[]],
-        status: 4,
-        out: "",
-        notes: "s.json: Unbuilt\n",
-    },
-    Call {
-        words: &["render", "a.jsx", "s.json"],
-        app: PAGE,
-        script: b"",
-        fails: [&[], &[], &[]],
-        status: 4,
-        out: "",
-        notes: "s.json: Unbuilt\n",
-    },
+/// Which calls fail: of the files, of the output and of the notes.
+type Fails = [&'static [u32]; 3];
+
+const NEVER: Fails = [&[], &[], &[]];
+
+/// Words, with the calls that fail; and the status, the output and the note over the files `a.jsx` and `s.json`.
+const WORDS: [(&[&str], Fails, u8, &str, &str); 15] = [
+    (RENDER, NEVER, 0, HTML, ""),
+    (&[], NEVER, 2, "", "usage\n"),
+    (&["render"], NEVER, 2, "", "usage\n"),
+    (&["render", "a.jsx"], NEVER, 2, "", "usage\n"),
+    (&["render", "a.jsx", "s.json", "x"], NEVER, 2, "", "usage\n"),
+    (&["show", "a.jsx", "s.json"], NEVER, 2, "", "usage\n"),
+    (
+        &["render", "b.jsx", "s.json"],
+        NEVER,
+        3,
+        "",
+        "cannot read b.jsx\n",
+    ),
+    (
+        &["render", "a.jsx", "t.json"],
+        NEVER,
+        3,
+        "",
+        "cannot read t.json\n",
+    ),
+    (RENDER, [&[0], &[], &[]], 3, "", "cannot read a.jsx\n"),
+    (RENDER, [&[1], &[], &[]], 3, "", "cannot read s.json\n"),
+    (RENDER, [&[2], &[], &[]], 0, HTML, ""),
+    (RENDER, [&[], &[0], &[]], 7, "", ""),
+    (&["render"], [&[], &[], &[0]], 7, "", ""),
+    (&["render", "b.jsx", "s.json"], [&[], &[0], &[0]], 7, "", ""),
+    (RENDER, [&[], &[], &[0]], 0, HTML, ""),
 ];
+
+/// Component files and scripts of `render`, and the status, the output and the note.
+const FILES: [(&[u8], &[u8], u8, &str, &str); 15] = [
+    (PAGE, b"[]\n", 0, HTML, ""),
+    (PAGE, b"[ ]", 0, HTML, ""),
+    (
+        b"function App() {\xff",
+        b"[]",
+        4,
+        "",
+        "a.jsx: NotUtf8 valid=16\n",
+    ),
+    (
+        b"function App() { return null; }\n",
+        b"[]",
+        4,
+        "",
+        "a.jsx: Unbuilt\n",
+    ),
+    (b"", b"x", 4, "", "a.jsx: Unbuilt\n"),
+    (PAGE, b"", 4, "", "s.json: NotJson\n"),
+    (PAGE, b"{}", 4, "", "s.json: NotJson\n"),
+    (PAGE, b"\xff", 4, "", "s.json: NotJson\n"),
+    (
+        PAGE,
+        b"[{\"resolve\":\"u\",\"va",
+        4,
+        "",
+        "s.json: NotJson\n",
+    ),
+    (
+        PAGE,
+        b"[{\"claim\":0}]",
+        4,
+        "",
+        "s.json: NotEvent index=0\n",
+    ),
+    (
+        PAGE,
+        b"[{\"resolve\":\"u\",\"value\":1.5}]",
+        4,
+        "",
+        "s.json: BadValue index=0\n",
+    ),
+    (PAGE, TWICE, 4, "", "s.json: SettledTwice index=1 first=0\n"),
+    (PAGE, b"[{\"work\":0}]", 4, "", "s.json: Unbuilt\n"),
+    (PAGE, b"[{\"flush\":0}]", 4, "", "s.json: Unbuilt\n"),
+    (
+        PAGE,
+        b"[{\"reject\":\"u\",\"digest\":\"\"}]",
+        4,
+        "",
+        "s.json: Unbuilt\n",
+    ),
+];
+
+const TWICE: &[u8] = b"[{\"resolve\":\"u\",\"value\":1},{\"reject\":\"u\",\"digest\":\"\"}]";
 
 /// Calls `fizz` over files in memory.
 pub(super) fn run_fizz<R: Threads + Wait + Sync>(
@@ -202,7 +111,7 @@ pub(super) fn run_fizz<R: Threads + Wait + Sync>(
     alloc: Global,
     words: &[&'static str],
     entries: Vec<(Text, Vec<u8>)>,
-    fails: &[&'static [u32]; 3],
+    fails: &Fails,
 ) -> Result<(u8, MemorySink, MemorySink), AllocError> {
     let mut texts = Vec::new(alloc);
     for word in words {
@@ -228,19 +137,25 @@ fn pair(alloc: Global, app: Vec<u8>, script: Vec<u8>) -> Result<Vec<(Text, Vec<u
 #[test]
 fn calls_end_with_their_status(rt: HostRuntime) -> Result<(), Fail> {
     let alloc = rt.alloc();
-    for row in CALLS.iter() {
-        let app = row.app.to_vec(alloc)?;
-        let script = row.script.to_vec(alloc)?;
-        let (status, out, notes) = run_fizz(
-            &rt,
-            alloc,
-            row.words,
-            pair(alloc, app, script)?,
-            &row.fails,
-        )?;
-        assert_eq!(rt; status, row.status);
-        assert_eq!(rt; out.bytes(), row.out.as_bytes());
-        assert_eq!(rt; notes.bytes(), row.notes.as_bytes());
+    for row in WORDS.iter() {
+        let entries = pair(alloc, PAGE.to_vec(alloc)?, b"[]".to_vec(alloc)?)?;
+        let (status, out, notes) = run_fizz(&rt, alloc, row.0, entries, &row.1)?;
+        assert_eq!(rt; status, row.2);
+        assert_eq!(rt; out.bytes(), row.3.as_bytes());
+        assert_eq!(rt; notes.bytes(), row.4.as_bytes());
+    }
+    Ok(())
+}
+
+#[test]
+fn files_are_rendered_or_refused(rt: HostRuntime) -> Result<(), Fail> {
+    let alloc = rt.alloc();
+    for row in FILES.iter() {
+        let entries = pair(alloc, row.0.to_vec(alloc)?, row.1.to_vec(alloc)?)?;
+        let (status, out, notes) = run_fizz(&rt, alloc, RENDER, entries, &NEVER)?;
+        assert_eq!(rt; status, row.2);
+        assert_eq!(rt; out.bytes(), row.3.as_bytes());
+        assert_eq!(rt; notes.bytes(), row.4.as_bytes());
     }
     Ok(())
 }
@@ -248,16 +163,14 @@ fn calls_end_with_their_status(rt: HostRuntime) -> Result<(), Fail> {
 #[test]
 fn long_files_are_refused(rt: HostRuntime) -> Result<(), Fail> {
     let alloc = rt.alloc();
-    let words = ["render", "a.jsx", "s.json"];
-    let never: [&'static [u32]; 3] = [&[], &[], &[]];
     let long = vec![in alloc; b' '; 262_145]?;
     let script = b"[]".to_vec(alloc)?;
-    let (status, _, notes) = run_fizz(&rt, alloc, &words, pair(alloc, long, script)?, &never)?;
+    let (status, _, notes) = run_fizz(&rt, alloc, RENDER, pair(alloc, long, script)?, &NEVER)?;
     assert_eq!(rt; status, 4);
     assert_eq!(rt; notes.bytes(), b"a.jsx: TooLong most=262144\n".as_slice());
     let long = vec![in alloc; b' '; 16_777_217]?;
     let app = PAGE.to_vec(alloc)?;
-    let (status, _, notes) = run_fizz(&rt, alloc, &words, pair(alloc, app, long)?, &never)?;
+    let (status, _, notes) = run_fizz(&rt, alloc, RENDER, pair(alloc, app, long)?, &NEVER)?;
     assert_eq!(rt; status, 4);
     assert_eq!(rt;
         notes.bytes(),

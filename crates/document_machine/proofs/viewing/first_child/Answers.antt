@@ -1,5 +1,5 @@
 use Rattle.std.proofs.Common.{Some}
-use Rattle.document_machine.proofs.Frames.{nodes_from-first}
+use Rattle.document_machine.proofs.WalksLemmas.{nodes_from-first}
 use Rattle.document_machine.proofs.viewing.first_child.Goals as goal
 
 pub returns : goal.returns

@@ -1,8 +1,8 @@
 use Rattle.std.proofs.Common.{ap, sym, ◌∙◌, Some, [], ◌∷◌, ◌++◌}
 use Rattle.dom_forest.specs.Seen.{shown_node}
-use Rattle.document_machine.specs.declared.view.Item.TheVariants as item
+use Rattle.document_machine.specs.declared.view.ViewPart.TheVariants as part
 use Rattle.document_machine.specs.Views.{is_left_out}
-use Rattle.document_machine.proofs.Frames.{passes_element, passes_text, turns-element}
+use Rattle.document_machine.proofs.WalksLemmas.{passes_element, passes_text, turns-element}
 use Rattle.document_machine.proofs.viewing.pass.Goals as goal
 
 pub returns-in_ok-open_element-in-Element-clause-view : goal.returns-in_ok-open_element-in-Element-clause-view
@@ -20,4 +20,4 @@ returns-in_ok-open_element-in-Element-clause-less c =
 pub returns-in_ok-push-in-Text-clause-view : goal.returns-in_ok-push-in-Text-clause-view
 returns-in_ok-push-in-Text-clause-view c =
     passes_text c.args.prefix.now c.args.dom.now.forest c.args.walk.now c.push.new.self c.args.node c.next_node-later.result c.in-Text.text.now
-    (ap (λ n. Some (shown_node n)) (sym c.in-Text.is) ∙ c.in-Some.ensures.content) c.next_node-later.ensures (c.in_ok-push-in-Text.ensures.ok ∙ ap (λ t. c.args.walk.now.items ++ item.Text t ∷ []) c.in_ok-copy-in-Text.ensures)
+    (ap (λ n. Some (shown_node n)) (sym c.in-Text.is) ∙ c.in-Some.ensures.content) c.next_node-later.ensures (c.in_ok-push-in-Text.ensures.ok ∙ ap (λ t. c.args.walk.now.parts ++ part.Text t ∷ []) c.in_ok-copy-in-Text.ensures)

@@ -1,9 +1,12 @@
 use Rattle.fizz_cli.proofs.Pages.{MachineLaws}
-use Rattle.fizz_cli.proofs.RefusalsLemmas.{app_excludes, page_excludes}
+use Rattle.fizz_cli.proofs.RefusalsLemmas.{app_excludes, page_excludes, script_excludes}
 use Rattle.fizz_cli.proofs.laws.laws_of_steps.Goals as goal
 
 pub returns-clause-app : goal.returns-clause-app
 returns-clause-app c = app_excludes
+
+pub returns-clause-script : goal.returns-clause-script
+returns-clause-script c = script_excludes
 
 pub returns-clause-page : goal.returns-clause-page
 returns-clause-page c = λ prefix name file out refusal utf8.

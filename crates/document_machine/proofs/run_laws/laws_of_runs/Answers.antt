@@ -1,0 +1,7 @@
+use Rattle.document_machine.proofs.RunsLemmas.{RestLaws, runs_begun, runs_knowing, runs_numbered, runs_prefix}
+use Rattle.document_machine.proofs.run_laws.laws_of_runs.Goals as goal
+
+pub returns : goal.returns
+returns c =
+    let rests : RestLaws = record { prefix = c.laws_of_tokens.ensures.prefix; text = c.laws_of_rests.ensures.text } in
+    record { prefix = runs_prefix rests; numbered = runs_numbered; more_known = runs_knowing; begun = runs_begun }

@@ -1,0 +1,3 @@
+mod EntriesLemmas
+mod RunLemmas
+mod LayersLemmas

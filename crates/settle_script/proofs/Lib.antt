@@ -1,0 +1,2 @@
+mod SettlementsLemmas
+mod ScriptsLemmas

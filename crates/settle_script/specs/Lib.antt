@@ -1,0 +1,4 @@
+pub mod JsonValues
+pub mod Settlements
+pub mod Scripts
+pub mod Index
