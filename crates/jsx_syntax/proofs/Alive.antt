@@ -35,7 +35,7 @@ use Rattle.jsx_syntax.specs.declared.state.InElement.TheVariants as t
 use Rattle.jsx_syntax.specs.Trees.{node_of}
 use Rattle.jsx_syntax.specs.Grammar.{Sort, Syntax, Meaning, spell, tree, Fits, HasRoom, IsName, AreNames, equal_sign}
 use Rattle.jsx_syntax.specs.Grammar as g
-use Rattle.jsx_syntax.specs.Steps.{allows_node, nesting, holds_children, fallback_place, dotted, component_of, with_stmt, same_name}
+use Rattle.jsx_syntax.specs.Steps.{allows_node, nesting, holds_children, fallback_place, operand_of, component_of, with_stmt, same_name}
 use Rattle.jsx_syntax.specs.declared.expr.Expr.TheVariants as e
 use Rattle.jsx_syntax.specs.declared.node.Node.TheVariants as n
 use Rattle.jsx_syntax.specs.Trees.{choose_part}
@@ -133,13 +133,13 @@ alive_node fs ih q node z =
     (λ more. ap (stack_words fs (part q.place q.depth) z.below) (u.words_are more)) (ih (part q.place q.depth) z.below (node_part q (Other node)) u.read)
 
 alive_after : (fs : List Frame) → Below fs → (q : Pending) (x : Part) (z : At (steps.after_part q x fs).position (steps.after_part q x fs).stack) → Alive (at_words (steps.after_part q x fs).position (steps.after_part q x fs).stack z)
-alive_after fs ih q (Value x) z = alive_value fs ih q (dotted x) z
+alive_after fs ih q (Value x) z = alive_value fs ih q (operand_of x) z
 alive_after fs ih q (Other x) z = alive_node fs ih q x z
 
 alive_operand : (fs : List Frame) → Below fs → (q : Pending) (z : At (position.Inside (i.Operand q)) fs) → Alive (at_words (position.Inside (i.Operand q)) fs z)
 alive_operand fs ih q z =
-    let k : Kept (at_words (position.Inside (i.Operand q)) fs z) (w.Number (pos 0)) (inside (i.Value q (dotted (e.Int (pos 0)))) fs) = operand_sound q fs z (w.Number (pos 0)) in
-    alive_by (at_words (position.Inside (i.Operand q)) fs z) (w.Number (pos 0)) (inside (i.Value q (dotted (e.Int (pos 0)))) fs) k (alive_value fs ih q (dotted (e.Int (pos 0))) k.at)
+    let k : Kept (at_words (position.Inside (i.Operand q)) fs z) (w.Number (pos 0)) (inside (i.Value q (operand_of (e.Int (pos 0)))) fs) = operand_sound q fs z (w.Number (pos 0)) in
+    alive_by (at_words (position.Inside (i.Operand q)) fs z) (w.Number (pos 0)) (inside (i.Value q (operand_of (e.Int (pos 0)))) fs) k (alive_value fs ih q (operand_of (e.Int (pos 0))) k.at)
 
 alive_children : (fs : List Frame) → Below fs → (x : Opened) (z : At (position.InElement (t.Children x)) fs) → Alive (at_words (position.InElement (t.Children x)) fs z)
 alive_children fs ih x z = by_name x.name refl
@@ -223,8 +223,8 @@ alive_throw draft test fs ih pl d z (Value v) r =
 alive_parens : (q : Pending) (fs : List Frame) → Below fs → (pl : Bool) (d : ℕ) (z : Stacked (f.Parens q ∷ fs) (part pl d)) (x : Part) (r : PartRead x pl d) → Alive (finished (f.Parens q ∷ fs) pl d z x r)
 alive_parens q fs ih pl d z (Value v) r =
     let words = finished (f.Parens q ∷ fs) pl d z (Value v) r in
-    let k : Kept words (w.Sign p.CloseParen) (inside (i.Value q (dotted v)) fs) = close_sound (f.Parens q) fs pl d z (Value v) r (w.Sign p.CloseParen) in
-    alive_by words (w.Sign p.CloseParen) (inside (i.Value q (dotted v)) fs) k (alive_value fs ih q (dotted v) k.at)
+    let k : Kept words (w.Sign p.CloseParen) (inside (i.Value q (operand_of v)) fs) = close_sound (f.Parens q) fs pl d z (Value v) r (w.Sign p.CloseParen) in
+    alive_by words (w.Sign p.CloseParen) (inside (i.Value q (operand_of v)) fs) k (alive_value fs ih q (operand_of v) k.at)
 alive_parens q fs ih pl d z (Other v) r =
     let words = finished (f.Parens q ∷ fs) pl d z (Other v) r in
     let k : Kept words (w.Sign p.CloseParen) (inside (i.Node q v) fs) = close_sound (f.Parens q) fs pl d z (Other v) r (w.Sign p.CloseParen) in
@@ -359,9 +359,9 @@ alive_outside (o.BodyEnd components) fs z = alive_body_end fs components z
 
 alive_const_value : (fs : List Frame) (draft : Draft) (name : Name) (z : At (position.Within (b.ConstValue draft name)) fs) → Alive (at_words (position.Within (b.ConstValue draft name)) fs z)
 alive_const_value fs draft name z =
-    let next = inside (i.Value (fresh false 1) (dotted (e.Int (pos 0)))) (f.Bind draft name ∷ fs) in
+    let next = inside (i.Value (fresh false 1) (operand_of (e.Int (pos 0)))) (f.Bind draft name ∷ fs) in
     let k : Kept (at_words (position.Within (b.ConstValue draft name)) fs z) (w.Number (pos 0)) next = sound_within (b.ConstValue draft name) fs z (w.Number (pos 0)) in
-    alive_by (at_words (position.Within (b.ConstValue draft name)) fs z) (w.Number (pos 0)) next k (alive_value (f.Bind draft name ∷ fs) (alive_below (f.Bind draft name ∷ fs)) (fresh false 1) (dotted (e.Int (pos 0))) k.at)
+    alive_by (at_words (position.Within (b.ConstValue draft name)) fs z) (w.Number (pos 0)) next k (alive_value (f.Bind draft name ∷ fs) (alive_below (f.Bind draft name ∷ fs)) (fresh false 1) (operand_of (e.Int (pos 0))) k.at)
 
 alive_const_equals : (fs : List Frame) (draft : Draft) (name : Name) (z : At (position.Within (b.ConstEquals draft name)) fs) → Alive (at_words (position.Within (b.ConstEquals draft name)) fs z)
 alive_const_equals fs draft name z =

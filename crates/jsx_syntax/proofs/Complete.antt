@@ -39,7 +39,7 @@ use Rattle.jsx_syntax.specs.Words.{name_word, is_reserved, reserved_words}
 use Rattle.jsx_syntax.specs.WordTests.{is_sign, is_word, has_room, code_name}
 use Rattle.jsx_syntax.specs.Grammar.{Sort, Syntax, spell, tree, Fits, HasRoom, equal_sign}
 use Rattle.jsx_syntax.specs.Grammar as g
-use Rattle.jsx_syntax.specs.Steps.{Moved, inside, outside, within, in_map, in_element, fresh, nesting, dotted, nots_of, equal_of, sums_of, ands_of, ors_of, value_of, node_part, after_part, names_before_map, finish, run, step_value, step_operand, step_item, step_attributes, close_item, deliver, holds_children, allows_node, fallback_place}
+use Rattle.jsx_syntax.specs.Steps.{Moved, inside, outside, within, in_map, in_element, fresh, nesting, operand_of, nots_of, equal_of, sums_of, ands_of, ors_of, value_of, node_part, after_part, names_before_map, finish, run, step_value, step_operand, step_item, step_attributes, close_item, deliver, holds_children, allows_node, fallback_place}
 use Rattle.jsx_syntax.specs.Steps as steps
 
 -- the state at a place within an expression, and what comes after it
@@ -176,7 +176,7 @@ element_words (g.fragment c) more = refl
 -- What the steps make of a production's words, by its nonterminal.
 abbrev Reads : (s : Sort) → Syntax s → Type 0
 Reads g.primary c = (q : Pending) (stack : List Frame) (d : ℕ) (more : List Word) → Fits g.primary c d → nesting q ≡ d
-    → at (i.Operand q) stack (spell g.primary c more) ≡ at (i.Value q (dotted (tree g.primary c))) stack more
+    → at (i.Operand q) stack (spell g.primary c more) ≡ at (i.Value q (operand_of (tree g.primary c))) stack more
 Reads g.member c = (q : Pending) (stack : List Frame) (d : ℕ) (more : List Word) → Fits g.member c d → nesting q ≡ d
     → at (i.Operand q) stack (spell g.member c more) ≡ at (i.Value q (tree g.member c)) stack more
 Reads g.unary c = (q : Pending) (stack : List Frame) (d : ℕ) (more : List Word) → Fits g.unary c d → nesting q ≡ d
@@ -283,7 +283,7 @@ after_part-closes : (d : ℕ) (ors ands : List Expr) (x : Part) (stack : List Fr
     → run (Ok (after_part (pend true d ors ands None [] 0) x stack)) (word ∷ more)
     ≡ run (finish (node_part (pend true d ors ands None [] 0) x) stack word) more
 after_part-closes d ors ands (Value x) stack word more closes =
-    ap (λ (m : Moved). run m more) (closes.value (pend true d ors ands None [] 0) (dotted x) stack)
+    ap (λ (m : Moved). run m more) (closes.value (pend true d ors ands None [] 0) (operand_of x) stack)
 after_part-closes d ors ands (Other x) stack word more closes = refl
 
 or_part-nil : (x : Part) → or_part [] x ≡ x

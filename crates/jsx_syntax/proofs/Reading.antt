@@ -8,7 +8,7 @@ use Rattle.jsx_syntax.specs.declared.state.Position.TheVariants as position
 use Rattle.jsx_syntax.specs.declared.state.Outside.TheVariants as o
 use Rattle.jsx_syntax.specs.Grammar.{Sort, Syntax, Meaning, spell, tree, Fits, HasRoom, IsName, AreNames, equal_sign}
 use Rattle.jsx_syntax.specs.Grammar as g
-use Rattle.jsx_syntax.specs.Steps.{allows_node, nesting, holds_children, fallback_place, dotted, component_of, with_stmt, same_name}
+use Rattle.jsx_syntax.specs.Steps.{allows_node, nesting, holds_children, fallback_place, operand_of, component_of, with_stmt, same_name}
 use Rattle.jsx_syntax.specs.Steps.{nots_of, equal_of, sums_of, ands_of, ors_of, value_of, node_part, is_empty}
 use Rattle.jsx_syntax.proofs.Zipper.{At, at_words}
 use Rattle.jsx_syntax.specs.declared.state.State.{State}

@@ -38,7 +38,7 @@ use Rattle.jsx_syntax.specs.Trees.{member_of, node_of, is_suspense}
 use Rattle.jsx_syntax.specs.Words.{name_word}
 use Rattle.jsx_syntax.specs.Grammar.{Sort, Syntax, Meaning, spell, tree, Fits, HasRoom, IsName, AreNames, equal_sign}
 use Rattle.jsx_syntax.specs.Grammar as g
-use Rattle.jsx_syntax.specs.Steps.{allows_node, nesting, holds_children, fallback_place, dotted, component_of, with_stmt, same_name}
+use Rattle.jsx_syntax.specs.Steps.{allows_node, nesting, holds_children, fallback_place, operand_of, component_of, with_stmt, same_name}
 use Rattle.jsx_syntax.specs.declared.expr.Expr.TheVariants as e
 use Rattle.jsx_syntax.specs.declared.node.Node.TheVariants as n
 use Rattle.jsx_syntax.specs.Trees.{choose_part, entry}
@@ -389,7 +389,7 @@ close_sound (f.Parens q) fs place d z (Value v) r word = on_sign p.CloseParen wo
           before = z.0.before;
           read = record {
             syntax = g.no_member (g.parens r.syntax);
-            is = ap dotted r.is;
+            is = ap operand_of r.is;
             fits = (z.0.room, subst (λ (k : ℕ). Fits g.expression r.syntax k) z.0.depth_is r.fits);
           };
         };
@@ -655,8 +655,8 @@ value_sound q d fs z word =
     (λ more. ap (stack_words fs (part q.place q.depth) z.below) (u.words_are more))
     (finish_sound fs q.place q.depth z.below (Value (value_of q d)) u.read word)))))))))
 
-abbrev operand_at : (q : Pending) (r : Before q) (x : Expr) → Read g.primary x (nesting q) → AtValue q (dotted x)
-operand_at q r x c = record { before = r; read = record { syntax = g.no_member c.syntax; is = ap dotted c.is; fits = c.fits } }
+abbrev operand_at : (q : Pending) (r : Before q) (x : Expr) → Read g.primary x (nesting q) → AtValue q (operand_of x)
+operand_at q r x c = record { before = r; read = record { syntax = g.no_member c.syntax; is = ap operand_of c.is; fits = c.fits } }
 
 on_text : (text lit : List ℕ) (place : ℕ) (words : List Word → List Word) (x y : Moved)
     → Good words (w.Name lit place) x → Good words (w.Name text place) y → Good words (w.Name text place) (if bytes_eq text lit then x else y)

@@ -17,8 +17,8 @@ use Rattle.jsx_syntax.specs.Trees.{entry}
 abbrev pub file_of : List Component → File
 file_of components = record { components = components }
 
-abbrev pub named : List ℕ → ℕ → Name
-named text place = record { text = text; at = place }
+abbrev pub name_at : List ℕ → ℕ → Name
+name_at text place = record { text = text; at = place }
 
 abbrev pub sign : Punctuator → Word
 sign mark = w.Sign mark
@@ -30,7 +30,7 @@ app_words stmts place node =
     ∷ (stmts ++ (w.Name (codes "return") place ∷ (node ++ (sign p.Semicolon ∷ sign p.CloseBrace ∷ []))))
 
 abbrev pub app : List Stmt → Node → File
-app stmts node = file_of (record { name = named (codes "App") 9; properties = []; stmts = stmts; result = node } ∷ [])
+app stmts node = file_of (record { name = name_at (codes "App") 9; properties = []; stmts = stmts; result = node } ∷ [])
 
 -- function App() { return <p id="a">{}hi</p>; }
 abbrev pub element_words : List Word
@@ -39,7 +39,7 @@ element_words = app_words [] 17 (sign p.Less ∷ w.Name (codes "p") 25 ∷ w.Nam
     ∷ sign p.Greater ∷ [])
 
 abbrev pub element_file : File
-element_file = app [] (n.Host (named (codes "p") 25) (entry (named (codes "id") 27) (n.Value (e.Text (codes "a"))) ∷ [])
+element_file = app [] (n.Host (name_at (codes "p") 25) (entry (name_at (codes "id") 27) (n.Value (e.Text (codes "a"))) ∷ [])
     (n.Value (e.Text (codes "hi")) ∷ []))
 
 -- function App() { return !a + (b) === 1 && c || <br/>; }
@@ -49,8 +49,8 @@ operator_words = app_words [] 17 (sign p.Not ∷ w.Name (codes "a") 25 ∷ sign 
     ∷ w.Name (codes "br") 48 ∷ sign p.SlashGreater ∷ [])
 
 abbrev pub operator_file : File
-operator_file = app [] (n.Or (e.And (e.Equal (e.Sum (e.Not (e.Name (named (codes "a") 25)) ∷ e.Name (named (codes "b") 30) ∷ []))
-    (e.Int (pos 1)) false ∷ e.Name (named (codes "c") 42) ∷ []) ∷ []) (n.Host (named (codes "br") 48) [] []))
+operator_file = app [] (n.Or (e.And (e.Equal (e.Sum (e.Not (e.Name (name_at (codes "a") 25)) ∷ e.Name (name_at (codes "b") 30) ∷ []))
+    (e.Int (pos 1)) false ∷ e.Name (name_at (codes "c") 42) ∷ []) ∷ []) (n.Host (name_at (codes "br") 48) [] []))
 
 -- function App() { return a.b.map((x, i) => [x, <></>,]); }
 abbrev pub map_words : List Word
@@ -60,8 +60,8 @@ map_words = app_words [] 17 (w.Name (codes "a") 24 ∷ sign p.Dot ∷ w.Name (co
     ∷ sign p.Comma ∷ sign p.CloseBracket ∷ sign p.CloseParen ∷ [])
 
 abbrev pub map_file : File
-map_file = app [] (n.Map (e.Member (e.Name (named (codes "a") 24)) (codes "b" ∷ [])) (named (codes "x") 33) (Some (named (codes "i") 36))
-    (n.Array (n.Value (e.Name (named (codes "x") 43)) ∷ n.Fragment [] ∷ [])))
+map_file = app [] (n.Map (e.Member (e.Name (name_at (codes "a") 24)) (codes "b" ∷ [])) (name_at (codes "x") 33) (Some (name_at (codes "i") 36))
+    (n.Array (n.Value (e.Name (name_at (codes "x") 43)) ∷ n.Fragment [] ∷ [])))
 
 -- function App() { const v = use("r"); if (v === 0) throw "z"; return v ? <a/> : null; }
 abbrev pub statement_words : List Word
@@ -74,6 +74,6 @@ statement_words = app_words
 
 abbrev pub statement_file : File
 statement_file = app
-    (s.Fetch (named (codes "v") 23) (e.Text (codes "r"))
-    ∷ s.Throw (e.Equal (e.Name (named (codes "v") 41)) (e.Int (pos 0)) false) (e.Text (codes "z")) ∷ [])
-    (n.Choose (e.Name (named (codes "v") 68)) (n.Host (named (codes "a") 73) [] []) (n.Value e.Null))
+    (s.Fetch (name_at (codes "v") 23) (e.Text (codes "r"))
+    ∷ s.Throw (e.Equal (e.Name (name_at (codes "v") 41)) (e.Int (pos 0)) false) (e.Text (codes "z")) ∷ [])
+    (n.Choose (e.Name (name_at (codes "v") 68)) (n.Host (name_at (codes "a") 73) [] []) (n.Value e.Null))

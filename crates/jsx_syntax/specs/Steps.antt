@@ -47,8 +47,6 @@ use Rattle.jsx_syntax.specs.declared.state.Position.TheVariants as at_
 use Rattle.jsx_syntax.specs.declared.state.Frame.{Frame}
 use Rattle.jsx_syntax.specs.declared.state.Frame.TheVariants as f
 use Rattle.jsx_syntax.specs.declared.state.State.{State}
-use Rattle.jsx_syntax.specs.declared.state.Top.{Top}
-use Rattle.jsx_syntax.specs.declared.state.Top.TheVariants as top
 use Rattle.jsx_syntax.specs.Trees.{members_of, member_of, sum_of, and_of, or_of, node_of, choose_part, and_part, or_part, is_suspense, entry, element_of}
 use Rattle.jsx_syntax.specs.Words.{takes_children, is_fallback, is_reserved}
 use Rattle.jsx_syntax.specs.WordTests.{is_sign, is_word, has_room, refusal, code_name, any_name}
@@ -111,8 +109,8 @@ is_empty (x ∷ xs) = false
 abbrev pub allows_node : Pending → Bool
 allows_node q = ((q.place && is_none q.left) && is_empty q.sums) && (q.nots == 0)
 
-abbrev pub dotted : Expr → Dotted
-dotted x = record { of = x; names = [] }
+abbrev pub operand_of : Expr → Dotted
+operand_of x = record { of = x; names = [] }
 
 abbrev pub nots_of : ℕ → Expr → Expr
 nots_of zero x = x
@@ -159,7 +157,7 @@ abbrev pub conditional : Pending → Dotted → Conditional
 conditional q d = record { place = q.place; depth = q.depth; test = value_of q d }
 
 abbrev pub after_part : Pending → Part → List Frame → State
-after_part q (Value x) stack = inside (i.Value q (dotted x)) stack
+after_part q (Value x) stack = inside (i.Value q (operand_of x)) stack
 after_part q (Other x) stack = inside (i.Node q x) stack
 
 -- the names before a last `map`
@@ -309,23 +307,6 @@ close (f.Child opened) x stack word = end_child opened x stack word
 close (f.Operand q) x stack word = Err wanted.Token
 close (f.Kid opened) x stack word = Err wanted.Token
 
--- whether the frame is the last part of a conditional
-abbrev pub top_of : Frame → Top
-top_of (f.No c one) = top.Last c one
-top_of (f.Use draft name) = top.Frame (f.Use draft name)
-top_of (f.Bind draft name) = top.Frame (f.Bind draft name)
-top_of (f.If draft) = top.Frame (f.If draft)
-top_of (f.Throw draft test) = top.Frame (f.Throw draft test)
-top_of (f.Return draft) = top.Frame (f.Return draft)
-top_of (f.Parens q) = top.Frame (f.Parens q)
-top_of (f.Yes c) = top.Frame (f.Yes c)
-top_of (f.Item q items) = top.Frame (f.Item q items)
-top_of (f.MapBody mapping item number_) = top.Frame (f.MapBody mapping item number_)
-top_of (f.Attribute tag name) = top.Frame (f.Attribute tag name)
-top_of (f.Child opened) = top.Frame (f.Child opened)
-top_of (f.Operand q) = top.Frame (f.Operand q)
-top_of (f.Kid opened) = top.Frame (f.Kid opened)
-
 abbrev pub close_top : Part → List Frame → Word → Moved
 close_top x [] word = Err wanted.Token
 close_top x (frame ∷ stack) word = close frame x stack word
@@ -376,7 +357,7 @@ step_value q d stack word =
     else step_end q d stack word
 
 abbrev pub operand : Pending → Expr → List Frame → Moved
-operand q x stack = Ok (inside (i.Value q (dotted x)) stack)
+operand q x stack = Ok (inside (i.Value q (operand_of x)) stack)
 
 abbrev pub step_reserved : Pending → List ℕ → List Frame → Moved
 step_reserved q text stack =

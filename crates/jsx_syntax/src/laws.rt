@@ -9,7 +9,8 @@ ghost use Rattle.jsx_syntax.specs.Examples as example;
 
 /// Words spell one file at most.
 pub fn one_file()
-    ensures { (words : List Word) (file other : File) → SpellsFile words file → SpellsFile words other → file ≡ other }
+    ensures { (words : List Word) (file other : File) →
+        SpellsFile words file → SpellsFile words other → file ≡ other }
 {}
 
 /// Words spell a file, or one of them is the first that no file has after those before it.

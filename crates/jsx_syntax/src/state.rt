@@ -218,12 +218,6 @@ pub(crate) enum Frame {
     Kid(Opened),
 }
 
-/// The innermost frame, unless it is the last part of a conditional.
-pub(crate) enum Top {
-    Last(Conditional, Part),
-    Frame(Frame),
-}
-
 /// Where the parser is in a text.
 #[derive(Debug, Drop)]
 pub(crate) struct State {
