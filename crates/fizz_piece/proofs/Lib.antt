@@ -1,0 +1,4 @@
+mod ShapesLemmas
+mod PlacesLemmas
+mod PrintingLemmas
+mod WorksLemmas
