@@ -18,7 +18,7 @@ use Rattle.document_machine.specs.declared.fault.MachineFault.TheVariants.{Html,
 use Rattle.document_machine.specs.declared.view.View.{View as Seen}
 use Rattle.document_machine.specs.MachineState.{FinishRefusal, HasRun, MachineState, Sees, SeesWhole}
 use Rattle.document_machine.specs.Ready.{GoesWell, IsReady}
-use Rattle.document_machine.specs.Shown.{seen}
+use Rattle.document_machine.specs.Shown.{view_of_parts}
 use Rattle.document_machine.specs.Views.{view_of}
 use Rattle.document_machine.specs.Taking.{IsEndCause, IsTextNow, LeavesRest, RunsToEnd, Went}
 use Rattle.document_machine.proofs.Following.{steps_push}
@@ -179,14 +179,14 @@ if_ok (Err e) P Q f p = tt
 
 -- A machine that goes on, as it is seen from outside.
 
-pub sees : (inside self : MachineState) (view : Seen) → inside ≡ self → IsTextNow inside.reader None → seen view.parts ≡ view_of inside.prefix inside.built.dom.forest
+pub sees : (inside self : MachineState) (view : Seen) → inside ≡ self → IsTextNow inside.reader None → view_of_parts view.parts ≡ view_of inside.prefix inside.built.dom.forest
     → (bytes : List ℕ) → HasRun bytes self → Sees self bytes view
 sees inside self view e none v bytes h =
     let k = subst (HasRun bytes) (sym e) h in
     subst (λ m. Sees m bytes view) e (record { built = inside.built; run = run_so_far inside.prefix bytes inside.reader inside.built none (went bytes inside k); is = v })
 
 pub sees_text : (inside self : MachineState) (view : Seen) (text : List ℕ) → inside ≡ self → IsTextNow inside.reader (Some text)
-    → seen view.parts ≡ view_of inside.prefix (with_node (Text text) inside.built).dom.forest → (bytes : List ℕ) → HasRun bytes self → Sees self bytes view
+    → view_of_parts view.parts ≡ view_of inside.prefix (with_node (Text text) inside.built).dom.forest → (bytes : List ℕ) → HasRun bytes self → Sees self bytes view
 sees_text inside self view text e o v bytes h =
     let k = subst (HasRun bytes) (sym e) h in
     subst (λ m. Sees m bytes view) e
@@ -227,7 +227,7 @@ open_refusal inside self size new e ready ended some bytes h =
 
 pub sees_whole : (inside self : MachineState) (new : PageState) (view : Seen) → inside ≡ self
     → ((bytes : List ℕ) → Went inside.prefix bytes inside.reader inside.built → RunsToEnd inside.prefix bytes new) → nat_lt 0 (length new.opened) ≡ false
-    → seen view.parts ≡ view_of inside.prefix new.dom.forest → (bytes : List ℕ) → HasRun bytes self → SeesWhole self bytes view
+    → view_of_parts view.parts ≡ view_of inside.prefix new.dom.forest → (bytes : List ℕ) → HasRun bytes self → SeesWhole self bytes view
 sees_whole inside self new view e ended none v bytes h =
     let k = subst (HasRun bytes) (sym e) h in
     let r = ended bytes (went bytes inside k) in

@@ -5,7 +5,7 @@ use Rattle.dom_forest.specs.declared.node.Mark.TheVariants.{Complete, Pending, C
 use Rattle.dom_forest.specs.declared.node.NewNode.{NewNode}
 use Rattle.dom_forest.specs.declared.node.NewNode.TheVariants.{Element, Text, Comment}
 use Rattle.dom_forest.specs.Forest.{Forest, empty, tree, times, or_else, or_id, from, first_content, first_tree, content_of, later_of, IsThere, IsElement, IsComment}
-use Rattle.dom_forest.specs.Edits.{DomState, IsNumbered, changed, without}
+use Rattle.dom_forest.specs.Edits.{DomState, IsNumbered, with_change, without_node}
 use Rattle.dom_forest.specs.Seen.{number}
 use Rattle.dom_forest.specs.declared.node.NodeId.{NodeId}
 use Rattle.std.specs.Prelude.{IfSome}
@@ -155,7 +155,7 @@ element_not_comment (Some (Comment mark)) e c = e
 
 -- An element keeps what it says when a comment says something else.
 pub element_stays : (id mark : ℕ) (node : NewNode) (forest : Forest) → IsElement (content_of id forest) → IsComment (content_of mark forest)
-    → IsElement (content_of id (changed mark (λ content kids later. tree mark node kids later) forest))
+    → IsElement (content_of id (with_change mark (λ content kids later. tree mark node kids later) forest))
 element_stays id mark node forest e c =
     subst IsElement
     (sym (dressed_content id mark (λ _. node) forest (λ same. element_not_comment (content_of id forest) e (subst (λ n. IsComment (content_of n forest)) (sym same) c))))
@@ -173,10 +173,10 @@ nat_lt_once (suc m) n h = lt-ltb 0 (suc m) (omega arith) ∙ sym (ap not (le-ltb
 
 -- What is there goes with a part, or it stays.
 pub inside_or_not : (id part : ℕ) (dom : DomState) → IsNumbered dom → IsThere part dom.forest → IsThere id dom.forest
-    → nat_lt 0 (times id (first_tree (from part dom.forest))) ≡ not (nat_lt 0 (times id (without part dom).forest))
+    → nat_lt 0 (times id (first_tree (from part dom.forest))) ≡ not (nat_lt 0 (times id (without_node part dom).forest))
 inside_or_not id part dom d here there =
     let s = spot part dom.forest (omega (arith, d.once part)) in
-    nat_lt_once (times id (first_tree (from part dom.forest))) (times id (without part dom).forest)
+    nat_lt_once (times id (first_tree (from part dom.forest))) (times id (without_node part dom).forest)
     (omega (
       arith,
       ap (λ f. times id (first_tree f)) s.found,

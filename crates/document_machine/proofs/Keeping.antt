@@ -5,7 +5,7 @@ use Rattle.dom_forest.specs.declared.node.Mark.TheVariants.{Complete, Client}
 use Rattle.dom_forest.specs.declared.node.NewNode.{NewNode}
 use Rattle.dom_forest.specs.declared.node.NewNode.TheVariants.{Comment}
 use Rattle.dom_forest.specs.Forest.{Forest, empty, tree, times, from, first_tree, first_later, later_of, IsThere}
-use Rattle.dom_forest.specs.Edits.{DomState, IsNumbered, without, with_content, inner_of, part_of}
+use Rattle.dom_forest.specs.Edits.{DomState, IsNumbered, without_node, with_content, inner_of, part_of}
 use Rattle.dom_forest.specs.Boundary.{end_of_boundary}
 use Rattle.dom_forest.specs.Ids.{element_with}
 use Rattle.fizz_instructions.specs.declared.instruction.Instruction.{Instruction}
@@ -13,9 +13,9 @@ use Rattle.fizz_instructions.specs.declared.instruction.Instruction.TheVariants 
 use Rattle.fizz_instructions.specs.Bodies.{boundary_id, segment_id, placeholder_id}
 use Rattle.document_machine.specs.declared.edits.EditFault.{EditFault}
 use Rattle.document_machine.specs.declared.edits.EditFault.TheVariants.{NoSuchId, NotBoundary}
-use Rattle.document_machine.specs.Edits.{Edited, unless_open, closed_with, marker_of, from_sibling, without_range, with_children_before, revealed, reveal_at, reveal, complete_from, fill_at, fill_from, fill_with, with_digest_unless_empty, client_render_at, client_render_from}
+use Rattle.document_machine.specs.Edits.{Edited, unless_open, closed_with, marker_of, from_sibling, without_range, with_children_before, with_content_revealed, reveal_at, reveal, complete_from, fill_at, fill_from, fill_with, with_digest_unless_empty, client_render_at, client_render_from}
 use Rattle.document_machine.specs.Paths.{IsOpenDocument}
-use Rattle.document_machine.specs.Running.{acted}
+use Rattle.document_machine.specs.Running.{edit_of}
 use Rattle.document_machine.proofs.Shapes.{tops, dressed_tops}
 use Rattle.document_machine.proofs.Finding.{nothing_is, from_stands, end_stands, marker_comment}
 use Rattle.document_machine.proofs.Numbering.{numbered_content}
@@ -68,7 +68,7 @@ module _ (opened : List ℕ) where
       let said = open_said opened dom d marker (Comment Complete) (marker_comment template marker dom.forest marker_is) in
       let stands = end_stays template end marker (Comment Complete) dom d.numbered end_is in
       let cut = open_range opened (with_content marker (Comment Complete) dom) said template end stands in
-      subst (IsOpenDocument opened) (accepted_is (revealed template marker end container old dom) dom' e)
+      subst (IsOpenDocument opened) (accepted_is (with_content_revealed template marker end container old dom) dom' e)
       (open_before opened (without_range template end (with_content marker (Comment Complete) dom)) cut end (inner_of (part_of container old)))
 
   keeps_reveal : (container : ℕ) (old dom dom' : DomState) (found : Option ℕ) → IsOpenDocument opened dom → reveal container old dom found ≡ Ok dom' → IsOpenDocument opened dom'
@@ -79,17 +79,17 @@ module _ (opened : List ℕ) where
       → complete_from segment boundary dom found ≡ Ok dom' → IsOpenDocument opened dom'
   keeps_complete segment boundary dom dom' None d is e = absurd (refused_is (NoSuchId segment) dom' e)
   keeps_complete segment boundary dom dom' (Some container) d is e =
-      keeps_reveal container dom (without container dom) dom' (element_with boundary (without container dom).forest)
+      keeps_reveal container dom (without_node container dom) dom' (element_with boundary (without_node container dom).forest)
       (open_without opened dom d container (closed_found opened (element_with segment dom.forest) container is).1) e
 
   keeps_fill_at : (id : List ℕ) (placeholder container : ℕ) (dom dom' : DomState) → IsOpenDocument opened dom
       → list_any (λ m. m == container) opened ≡ false → list_any (λ m. m == placeholder) opened ≡ false
       → fill_at id placeholder container dom ≡ Ok dom' → IsOpenDocument opened dom'
   keeps_fill_at id placeholder container dom dom' d outer inner e =
-      let put = with_children_before placeholder container dom (without container dom) in
+      let put = with_children_before placeholder container dom (without_node container dom) in
       let gone = open_without opened dom d container outer in
-      let kept = open_before opened (without container dom) gone placeholder (inner_of (part_of container dom)) in
-      moves (nat_lt 0 (times placeholder (first_tree (from container dom.forest)))) (without placeholder put) (open_without opened put kept placeholder inner) e where
+      let kept = open_before opened (without_node container dom) gone placeholder (inner_of (part_of container dom)) in
+      moves (nat_lt 0 (times placeholder (first_tree (from container dom.forest)))) (without_node placeholder put) (open_without opened put kept placeholder inner) e where
         moves : (b : Bool) (after : DomState) → IsOpenDocument opened after → (if b then Err (NoSuchId id) else Ok after) ≡ Ok dom' → IsOpenDocument opened dom'
         moves true after kept e = absurd (refused_is (NoSuchId id) dom' e)
         moves false after kept e = subst (IsOpenDocument opened) (accepted_is after dom' e) kept
@@ -123,7 +123,7 @@ module _ (opened : List ℕ) where
   keeps_client digest dom dom' None d e = subst (IsOpenDocument opened) (accepted_is dom dom' e) d
   keeps_client digest dom dom' (Some template) d e = keeps_client_at template digest dom dom' _ d refl e
 
-  pub acted_open : (prefix : List ℕ) (i : Instruction) (dom dom' : DomState) → IsOpenDocument opened dom → acted prefix opened i dom ≡ Ok dom' → IsOpenDocument opened dom'
+  pub acted_open : (prefix : List ℕ) (i : Instruction) (dom dom' : DomState) → IsOpenDocument opened dom → edit_of prefix opened i dom ≡ Ok dom' → IsOpenDocument opened dom'
   acted_open prefix (instruction.Complete boundary segment) dom dom' d e = keeps_complete (segment_id prefix segment) (boundary_id prefix boundary) dom dom' _ d refl e
   acted_open prefix (instruction.Segment segment) dom dom' d e = keeps_fill (segment_id prefix segment) (placeholder_id prefix segment) dom dom' _ d refl e
   acted_open prefix (instruction.ClientRender boundary digest) dom dom' d e = keeps_client digest dom dom' _ d e

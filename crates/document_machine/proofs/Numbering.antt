@@ -2,8 +2,8 @@
 use Rattle.std.proofs.Common.{◌≡◌, ◌≢◌, ℕ, zero, ◌+◌, ◌<◌, ◌≤◌, ◌==◌, eqb, Bool, true, false, if◌then◌else◌, inl, inr, refl, ap, arith, List}
 use Rattle.std.proofs.lemmas.Bool.{cond-false, eqb-true, ne_eqb, cases_eq, cases_lt}
 use Rattle.dom_forest.specs.declared.node.NewNode.{NewNode}
-use Rattle.dom_forest.specs.Forest.{Forest, empty, tree, times, count, joined}
-use Rattle.dom_forest.specs.Edits.{DomState, IsNumbered, changed, renumbered, without, with_before, with_content, with_digest_at, digest_set}
+use Rattle.dom_forest.specs.Forest.{Forest, empty, tree, times, count, joined_forests}
+use Rattle.dom_forest.specs.Edits.{DomState, IsNumbered, with_change, numbered_from, without_node, with_before, with_content, with_digest_at, digest_set}
 use Rattle.document_machine.specs.Edits.{from_sibling, without_range}
 use Rattle.document_machine.proofs.Spots.{Change, absent, spot}
 use Rattle.document_machine.proofs.Shapes.{dressed_times}
@@ -17,18 +17,18 @@ numbered_fewer dom forest d fewer = record {
 -- A change that brings no id brings none.
 changed_tree : (j id i : ℕ) (change : Change) (content : NewNode) (kids later : Forest) (b : Bool) → (i == id) ≡ b
     → times j (change content kids later) ≤ times j (tree id content kids later)
-    → times j (changed id change kids) ≤ times j kids → times j (changed id change later) ≤ times j later
-    → times j (if b then change content kids later else tree i content (changed id change kids) (changed id change later)) ≤ times j (tree i content kids later)
+    → times j (with_change id change kids) ≤ times j kids → times j (with_change id change later) ≤ times j later
+    → times j (if b then change content kids later else tree i content (with_change id change kids) (with_change id change later)) ≤ times j (tree i content kids later)
 changed_tree j id i change content kids later true e h k l = let same = ap (λ n. times j (tree n content kids later)) (eqb-true i id e) in omega arith
 changed_tree j id i change content kids later false e h k l = omega arith
 
 changed_fewer : (j id : ℕ) (change : Change) (forest : Forest) → ((content : NewNode) (kids later : Forest) → times j (change content kids later) ≤ times j (tree id content kids later))
-    → times j (changed id change forest) ≤ times j forest
+    → times j (with_change id change forest) ≤ times j forest
 changed_fewer j id change empty h = omega arith
 changed_fewer j id change (tree i content kids later) h =
     changed_tree j id i change content kids later (i == id) refl (h content kids later) (changed_fewer j id change kids h) (changed_fewer j id change later h)
 
-pub numbered_without : (id : ℕ) (dom : DomState) → IsNumbered dom → IsNumbered (without id dom)
+pub numbered_without : (id : ℕ) (dom : DomState) → IsNumbered dom → IsNumbered (without_node id dom)
 numbered_without id dom d = numbered_fewer dom _ d (λ j. changed_fewer j id _ dom.forest (λ content kids later. omega arith))
 
 from_sibling_fewer : (j end : ℕ) (forest : Forest) → times j (from_sibling end forest) ≤ times j forest
@@ -48,15 +48,15 @@ numbered_content id node dom d = numbered_fewer dom _ d (λ j. omega (arith, dre
 pub numbered_digest : (id : ℕ) (digest : List ℕ) (dom : DomState) → IsNumbered dom → IsNumbered (with_digest_at id digest dom)
 numbered_digest id digest dom d = numbered_fewer dom _ d (λ j. omega (arith, dressed_times j id (digest_set digest) dom.forest))
 
-pub joined_times : (j : ℕ) (a b : Forest) → times j (joined a b) ≡ times j a + times j b
+pub joined_times : (j : ℕ) (a b : Forest) → times j (joined_forests a b) ≡ times j a + times j b
 joined_times j empty b = omega arith
 joined_times j (tree i content kids later) b = omega (arith, joined_times j later b)
 
 -- The ids of renumbered nodes.
 record Given (j next : ℕ) (forest : Forest) : Type 0 where
-  below : j < next → times j (renumbered next forest) ≡ 0
-  past : next + count forest ≤ j → times j (renumbered next forest) ≡ 0
-  once : times j (renumbered next forest) ≤ 1
+  below : j < next → times j (numbered_from next forest) ≡ 0
+  past : next + count forest ≤ j → times j (numbered_from next forest) ≡ 0
+  once : times j (numbered_from next forest) ≤ 1
 
 given_first : (j next : ℕ) → next ≢ j → (if next == j then 1 else 0) ≤ 0
 given_first j next e = let none : (if next == j then 1 else 0) ≡ zero = cond-false (eqb next j) _ _ (ne_eqb next j e) in omega arith
@@ -84,14 +84,14 @@ given j next (tree i content kids later) =
     record { below = t.below; past = t.past; once = t.once }
 
 put_times : (j id next : ℕ) (part forest : Forest) → times id forest ≤ 1
-    → times j (changed id (λ content kids later. joined part (tree id content kids later)) forest) ≤ times j forest + times j part
+    → times j (with_change id (λ content kids later. joined_forests part (tree id content kids later)) forest) ≤ times j forest + times j part
 put_times j id next part forest once = elim (cases_eq (times id forest) 0) [
-  | inl none ↦ omega (arith, ap (times j) ((absent id forest none).same (λ content kids later. joined part (tree id content kids later))))
+  | inl none ↦ omega (arith, ap (times j) ((absent id forest none).same (λ content kids later. joined_forests part (tree id content kids later))))
   | inr some ↦ let s = spot id forest (omega arith) in
       omega (
         arith,
-        ap (times j) (s.edited (λ content kids later. joined part (tree id content kids later))),
-        s.counts j (joined part (tree id s.content s.kids s.later)),
+        ap (times j) (s.edited (λ content kids later. joined_forests part (tree id content kids later))),
+        s.counts j (joined_forests part (tree id s.content s.kids s.later)),
         joined_times j part (tree id s.content s.kids s.later),
         ap (times j) s.is,
         s.counts j (tree id s.content s.kids s.later),
@@ -101,8 +101,8 @@ put_times j id next part forest once = elim (cases_eq (times id forest) 0) [
 pub numbered_before : (id : ℕ) (part dom : DomState) → IsNumbered dom → IsNumbered (with_before id part dom)
 numbered_before id part dom d = record {
   once = λ j. elim (cases_lt j dom.next) [
-    | inl old ↦ omega (arith, put_times j id dom.next (renumbered dom.next part.forest) dom.forest (d.once id), (given j dom.next part.forest).below old, d.once j)
-    | inr new ↦ omega (arith, put_times j id dom.next (renumbered dom.next part.forest) dom.forest (d.once id), (given j dom.next part.forest).once, d.given j new)
+    | inl old ↦ omega (arith, put_times j id dom.next (numbered_from dom.next part.forest) dom.forest (d.once id), (given j dom.next part.forest).below old, d.once j)
+    | inr new ↦ omega (arith, put_times j id dom.next (numbered_from dom.next part.forest) dom.forest (d.once id), (given j dom.next part.forest).once, d.given j new)
   ];
-  given = λ j h. omega (arith, put_times j id dom.next (renumbered dom.next part.forest) dom.forest (d.once id), (given j dom.next part.forest).past h, d.given j (omega arith));
+  given = λ j h. omega (arith, put_times j id dom.next (numbered_from dom.next part.forest) dom.forest (d.once id), (given j dom.next part.forest).past h, d.given j (omega arith));
 }

@@ -12,7 +12,7 @@ use Rattle.fizz_instructions.specs.declared.instruction.Instruction.{Instruction
 use Rattle.fizz_instructions.specs.declared.instruction.SentFunctions.{SentFunctions}
 use Rattle.document_machine.specs.declared.building.OpenElement.{OpenElement}
 use Rattle.document_machine.specs.Edits.{Edited}
-use Rattle.document_machine.specs.Running.{PageState, ids_of, mark_of, with_node, with_open, acted}
+use Rattle.document_machine.specs.Running.{PageState, ids_of, mark_of, with_node, with_open, edit_of}
 use Rattle.document_machine.specs.Documents.{most_open, Step, starts, ends, stands, says, marks, runs, Steps}
 use Rattle.document_machine.proofs.LowerLaws.{ScriptLaws}
 
@@ -27,7 +27,7 @@ pub record RunsScript (prefix : List ℕ) (a : PageState) (body : List ℕ) (c :
   pub instruction : Instruction
   pub dom : DomState
   pub said : Says prefix body a.known instruction
-  pub acts : acted prefix (ids_of a.opened) instruction a.dom ≡ Ok dom
+  pub acts : edit_of prefix (ids_of a.opened) instruction a.dom ≡ Ok dom
   pub is : c ≡ record a { dom = dom; known = with_function a.known (function_of instruction) }
 
 -- What a step is, by its token.
@@ -64,7 +64,7 @@ closes_same a name b c s t =
 runs_same : ScriptLaws → (prefix : List ℕ) → IsUtf8 prefix → (a : PageState) (body : List ℕ) (b c : PageState) → RunsScript prefix a body b → RunsScript prefix a body c → b ≡ c
 runs_same laws prefix utf8 a body b c s t =
     let i : s.instruction ≡ t.instruction = one_said laws prefix utf8 body a.known a.known s.instruction t.instruction s.said t.said in
-    let d : s.dom ≡ t.dom = oks_same s.dom t.dom (sym s.acts ∙ (ap (λ x. acted prefix (ids_of a.opened) x a.dom) i ∙ t.acts)) in
+    let d : s.dom ≡ t.dom = oks_same s.dom t.dom (sym s.acts ∙ (ap (λ x. edit_of prefix (ids_of a.opened) x a.dom) i ∙ t.acts)) in
     s.is ∙ ((λ k. record a { dom = d k; known = with_function a.known (function_of (i k)) }) ∙ sym t.is)
 
 leads_to_one : ScriptLaws → (prefix : List ℕ) → IsUtf8 prefix → (a : PageState) (t : Token) (b c : PageState) → LeadsTo prefix a t b → LeadsTo prefix a t c → b ≡ c

@@ -4,8 +4,8 @@ use Rattle.std.proofs.lemmas.Bool.{cond-true, cond-false, eq-eqb, ne_eqb}
 use Rattle.std.proofs.lemmas.List.{append_assoc, reverse-append}
 use Rattle.dom_forest.specs.declared.node.NewNode.{NewNode}
 use Rattle.dom_forest.specs.declared.node.NodeId.{NodeId}
-use Rattle.dom_forest.specs.Forest.{Forest, empty, tree, times, joined, from, or_else, first_content, content_of, IsElement, MayHaveChildren}
-use Rattle.dom_forest.specs.Edits.{DomState, IsNumbered, changed, with_last, appended}
+use Rattle.dom_forest.specs.Forest.{Forest, empty, tree, times, joined_forests, from, or_else, first_content, content_of, IsElement, MayHaveChildren}
+use Rattle.dom_forest.specs.Edits.{DomState, IsNumbered, with_change, with_last, with_appended}
 use Rattle.document_machine.specs.declared.building.OpenElement.{OpenElement}
 use Rattle.document_machine.specs.Paths.{IsPath, IsOpenDocument}
 use Rattle.document_machine.specs.Running.{ids_of, innermost}
@@ -35,9 +35,9 @@ skips x xs i content kids empty path = absurd path
 skips x xs i content kids (tree j other below later) path = path
 
 -- A new node at the end of siblings is a path by itself.
-pub ends_with : (id : ℕ) (node : NewNode) → IsElement (Some node) → (forest : Forest) → IsPath (id ∷ []) (joined forest (tree id node empty empty))
+pub ends_with : (id : ℕ) (node : NewNode) → IsElement (Some node) → (forest : Forest) → IsPath (id ∷ []) (joined_forests forest (tree id node empty empty))
 ends_with id node is empty = (refl, is, tt)
-ends_with id node is (tree i content kids later) = skips id [] i content kids (joined later (tree id node empty empty)) (ends_with id node is later)
+ends_with id node is (tree i content kids later) = skips id [] i content kids (joined_forests later (tree id node empty empty)) (ends_with id node is later)
 
 -- The last of a path is there.
 pub path_there : (os : List ℕ) (p : ℕ) (forest : Forest) → IsPath (os ++ p ∷ []) forest → 1 ≤ times p forest
@@ -50,9 +50,9 @@ path_there (o ∷ os) p (tree i content kids (tree j other below later)) path = 
 
 -- More nodes at the end of the last element of a path, where they go on with it.
 abbrev with_kids : ℕ → Forest → Forest → Forest
-with_kids p more forest = changed p (λ content kids later. tree p content (joined kids more) later) forest
+with_kids p more forest = with_change p (λ content kids later. tree p content (joined_forests kids more) later) forest
 
-changed_here : (i p : ℕ) (content : NewNode) (kids later more : Forest) → i ≡ p → with_kids p more (tree i content kids later) ≡ tree p content (joined kids more) later
+changed_here : (i p : ℕ) (content : NewNode) (kids later more : Forest) → i ≡ p → with_kids p more (tree i content kids later) ≡ tree p content (joined_forests kids more) later
 changed_here i p content kids later more same = cond-true (eqb i p) _ _ (eq-eqb i p same)
 
 changed_past : (i p : ℕ) (content : NewNode) (kids later more : Forest) → i ≢ p
@@ -64,7 +64,7 @@ grows_after : (x : ℕ) (xs : List ℕ) (i p : ℕ) (content : NewNode) (kids la
 grows_after x xs i p content kids later more other path =
     subst (IsPath (x ∷ xs)) (sym (changed_past i p content kids later more other)) (skips x xs i content (with_kids p more kids) (with_kids p more later) path)
 
-pub grows : (os : List ℕ) (p : ℕ) (qs : List ℕ) (more : Forest) → ((kids : Forest) → IsPath qs (joined kids more)) → (forest : Forest)
+pub grows : (os : List ℕ) (p : ℕ) (qs : List ℕ) (more : Forest) → ((kids : Forest) → IsPath qs (joined_forests kids more)) → (forest : Forest)
     → Once forest → IsPath (os ++ p ∷ []) forest → IsPath (os ++ p ∷ qs) (with_kids p more forest)
 grows [] p qs more goes empty once path = absurd path
 grows [] p qs more goes (tree i content kids empty) once path =
@@ -136,7 +136,7 @@ may_append [] dom h = tt
 may_append (o ∷ os) dom h = path_element (reverse (ids_of os)) o.id.0 dom.forest h.numbered.once (path_of o os dom h)
 
 pub document_appended : (opened : List OpenElement) (node : NewNode) (dom : DomState) → IsOpenDocument (ids_of opened) dom
-    → IsNumbered (appended (innermost opened) node dom) → IsOpenDocument (ids_of opened) (appended (innermost opened) node dom)
+    → IsNumbered (with_appended (innermost opened) node dom) → IsOpenDocument (ids_of opened) (with_appended (innermost opened) node dom)
 document_appended [] node dom h n = record { numbered = n; path = tt }
 document_appended (o ∷ os) node dom h n = record {
   numbered = n;
@@ -145,14 +145,14 @@ document_appended (o ∷ os) node dom h n = record {
 }
 
 pub document_added : (opened : List OpenElement) (parent : Option NodeId) (node : NewNode) (dom new : DomState) → IsOpenDocument (ids_of opened) dom
-    → parent ≡ innermost opened → new ≡ appended parent node dom → IsNumbered new → IsOpenDocument (ids_of opened) new
+    → parent ≡ innermost opened → new ≡ with_appended parent node dom → IsNumbered new → IsOpenDocument (ids_of opened) new
 document_added opened parent node dom new h p e n =
-    let is : new ≡ appended (innermost opened) node dom = e ∙ ap (λ (o : Option NodeId). appended o node dom) p in
+    let is : new ≡ with_appended (innermost opened) node dom = e ∙ ap (λ (o : Option NodeId). with_appended o node dom) p in
     subst (IsOpenDocument (ids_of opened)) (sym is) (document_appended opened node dom h (subst IsNumbered is n))
 
 pub document_opened : (opened : List OpenElement) (node : NewNode) (name : List ℕ) (dom : DomState) → IsElement (Some node) → IsOpenDocument (ids_of opened) dom
-    → IsNumbered (appended (innermost opened) node dom)
-    → IsOpenDocument (ids_of (record { id = record { 0 = dom.next }; name = name } ∷ opened)) (appended (innermost opened) node dom)
+    → IsNumbered (with_appended (innermost opened) node dom)
+    → IsOpenDocument (ids_of (record { id = record { 0 = dom.next }; name = name } ∷ opened)) (with_appended (innermost opened) node dom)
 document_opened [] node name dom is h n = record { numbered = n; path = ends_with dom.next node is dom.forest }
 document_opened (o ∷ os) node name dom is h n = record {
   numbered = n;
@@ -165,11 +165,11 @@ pub document_closed : (o : OpenElement) (os : List OpenElement) (dom : DomState)
 document_closed o os dom h = record { numbered = h.numbered; path = shorter (reverse (ids_of os)) o.id.0 dom.forest (path_of o os dom h) }
 
 pub document_pushed : (old now : List OpenElement) (parent : Option NodeId) (id : NodeId) (node : NewNode) (name : List ℕ) (dom new : DomState) → IsElement (Some node)
-    → IsOpenDocument (ids_of (reverse old)) dom → parent ≡ innermost (reverse old) → new ≡ appended parent node dom → IsNumbered new → id.0 ≡ dom.next
+    → IsOpenDocument (ids_of (reverse old)) dom → parent ≡ innermost (reverse old) → new ≡ with_appended parent node dom → IsNumbered new → id.0 ≡ dom.next
     → now ≡ old ++ record { id = id; name = name } ∷ [] → IsOpenDocument (ids_of (reverse now)) new
 document_pushed old now parent id node name dom new is h p e n i items =
     let opened = reverse old in
-    let new_is : new ≡ appended (innermost opened) node dom = e ∙ ap (λ (o : Option NodeId). appended o node dom) p in
+    let new_is : new ≡ with_appended (innermost opened) node dom = e ∙ ap (λ (o : Option NodeId). with_appended o node dom) p in
     let stack : reverse now ≡ record { id = record { 0 = dom.next }; name = name } ∷ opened =
     ap (λ xs. reverse xs) items ∙ reverse-append old (record { id = id; name = name } ∷ []) ∙ ap (λ k. record { id = record { 0 = k }; name = name } ∷ reverse old) i in
     subst (λ os. IsOpenDocument (ids_of os) new) (sym stack)

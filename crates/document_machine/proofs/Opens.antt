@@ -6,8 +6,8 @@ use Rattle.std.proofs.lemmas.List.{reverse-append}
 use Rattle.std.proofs.lemmas.List.Folds.{list_any-append}
 use Rattle.dom_forest.specs.declared.node.NewNode.{NewNode}
 use Rattle.dom_forest.specs.declared.node.NewNode.TheVariants.{Element, Text, Comment}
-use Rattle.dom_forest.specs.Forest.{Forest, empty, tree, times, joined, from, first_content, first_later, content_of, later_of, IsThere, IsElement, IsComment}
-use Rattle.dom_forest.specs.Edits.{DomState, changed, renumbered, without, with_before, with_content, with_digest_at, digest_set}
+use Rattle.dom_forest.specs.Forest.{Forest, empty, tree, times, joined_forests, from, first_content, first_later, content_of, later_of, IsThere, IsElement, IsComment}
+use Rattle.dom_forest.specs.Edits.{DomState, with_change, numbered_from, without_node, with_before, with_content, with_digest_at, digest_set}
 use Rattle.document_machine.specs.Edits.{from_sibling, without_range}
 use Rattle.document_machine.specs.Paths.{IsPath, IsOpenDocument}
 use Rattle.document_machine.proofs.Spots.{Change, absent, spot, path_past}
@@ -37,7 +37,7 @@ list_any_nobody (o ∷ os) = list_any_nobody os
 -- The change of a node keeps a path if it keeps what follows from the node on.
 path_changed : (id : ℕ) (change : Change) (os : List ℕ) (test : ℕ → Bool) (forest : Forest) → times id forest ≤ 1 → IsPath os forest → list_any test os ≡ false
     → ((content : NewNode) (kids later : Forest) → from id forest ≡ tree id content kids later → (o : ℕ) (rest : List ℕ) → test o ≡ false
-    → IsPath (o ∷ rest) (tree id content kids later) → IsPath (o ∷ rest) (change content kids later)) → IsPath os (changed id change forest)
+    → IsPath (o ∷ rest) (tree id content kids later) → IsPath (o ∷ rest) (change content kids later)) → IsPath os (with_change id change forest)
 path_changed id change os test forest once p none keeps = elim (cases_eq (times id forest) 0) [
   | inl gone ↦ subst (IsPath os) (sym ((absent id forest gone).same change)) p
   | inr some ↦ let s = spot id forest (omega arith) in
@@ -62,9 +62,9 @@ last_dressed : (id : ℕ) (digest : List ℕ) (content : NewNode) (kids later : 
 last_dressed id digest content kids empty o rest p = (p.0, digest_element digest content p.1, p.2)
 last_dressed id digest content kids (tree j below lower after) o rest p = p
 
-last_after : (o : ℕ) (rest : List ℕ) (part forest : Forest) → IsPath (o ∷ rest) forest → IsPath (o ∷ rest) (joined part forest)
+last_after : (o : ℕ) (rest : List ℕ) (part forest : Forest) → IsPath (o ∷ rest) forest → IsPath (o ∷ rest) (joined_forests part forest)
 last_after o rest empty forest p = p
-last_after o rest (tree i content kids later) forest p = path_past o rest i content kids (joined later forest) (last_after o rest later forest p)
+last_after o rest (tree i content kids later) forest p = path_past o rest i content kids (joined_forests later forest) (last_after o rest later forest p)
 
 last_of : (o : ℕ) (rest : List ℕ) (i : ℕ) (content : NewNode) (kids later : Forest) (end : ℕ) → 0 < tops end later → IsPath (o ∷ rest) (tree i content kids later) → IsPath (o ∷ rest) later
 last_of o rest i content kids empty end h p = absurd (omega arith)
@@ -80,7 +80,7 @@ last_from o rest end (tree i content kids later) h p = suffix (i == end) h p (la
   suffix false h p after = after (omega arith) (last_of o rest i content kids later end (omega arith) p)
 
 module _ (opened : List ℕ) (dom : DomState) (d : IsOpenDocument opened dom) where
-  pub open_without : (id : ℕ) → list_any (λ n. n == id) opened ≡ false → IsOpenDocument opened (without id dom)
+  pub open_without : (id : ℕ) → list_any (λ n. n == id) opened ≡ false → IsOpenDocument opened (without_node id dom)
   open_without id closed = record {
     numbered = numbered_without id dom d.numbered;
     path = path_changed id _ (reverse opened) (λ n. n == id) dom.forest (d.numbered.once id) d.path (list_any_reverse (λ n. n == id) opened ∙ closed)
@@ -105,7 +105,7 @@ module _ (opened : List ℕ) (dom : DomState) (d : IsOpenDocument opened dom) wh
   open_before id part = record {
     numbered = numbered_before id part dom d.numbered;
     path = path_changed id _ (reverse opened) nobody dom.forest (d.numbered.once id) d.path (list_any_nobody (reverse opened))
-        (λ content kids later found o rest other p. last_after o rest (renumbered dom.next part.forest) (tree id content kids later) p);
+        (λ content kids later found o rest other p. last_after o rest (numbered_from dom.next part.forest) (tree id content kids later) p);
   }
 
   pub open_range : (first end : ℕ) → IsThere end (from_sibling end (later_of first dom.forest)) → IsOpenDocument opened (without_range first end dom)

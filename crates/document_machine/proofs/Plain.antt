@@ -1,6 +1,6 @@
 -- Documents without boundaries, and documents under other ids.
 use Rattle.std.proofs.Common.{◌≡◌, ℕ, ◌+◌, Bool, true, false, if◌then◌else◌, ◌==◌, List, [], ◌∷◌, Some, None, refl, ap, ◌∙◌, arith}
-use Rattle.dom_forest.specs.Edits.{renumbered}
+use Rattle.dom_forest.specs.Edits.{numbered_from}
 use Rattle.dom_forest.specs.Forest.{Forest, empty, tree, count}
 use Rattle.dom_forest.specs.declared.document.DocNode.{DocNode}
 use Rattle.dom_forest.specs.declared.document.DocNode.TheVariants as doc
@@ -10,39 +10,39 @@ use Rattle.dom_forest.specs.declared.node.NewNode.TheVariants.{Element, Text, Co
 use Rattle.document_machine.specs.declared.status.BoundaryStatus.TheVariants as kind
 use Rattle.document_machine.specs.Plain.{IsPlain, plain_nodes, plain_view}
 use Rattle.document_machine.specs.Settled.{is_pending, nodes_of, number_of, settled_of}
-use Rattle.document_machine.specs.Views.{View, text, element, Levels, digest_after, is_left_out, levels_of, marked, opened, siblings_of, view_of, with_first}
+use Rattle.document_machine.specs.Views.{View, text, element, Levels, digest_after, is_left_out, levels_of, levels_at_mark, levels_at_boundary, siblings_of, view_of, with_first}
 
-digest_after-renumbered : (first : ℕ) (forest : Forest) → digest_after (renumbered first forest) ≡ digest_after forest
-digest_after-renumbered first empty = refl
-digest_after-renumbered first (tree i (Element name attributes) kids later) = refl
-digest_after-renumbered first (tree i (Text t) kids later) = refl
-digest_after-renumbered first (tree i (Comment mark) kids later) = refl
+digest_after-numbered_from : (first : ℕ) (forest : Forest) → digest_after (numbered_from first forest) ≡ digest_after forest
+digest_after-numbered_from first empty = refl
+digest_after-numbered_from first (tree i (Element name attributes) kids later) = refl
+digest_after-numbered_from first (tree i (Text t) kids later) = refl
+digest_after-numbered_from first (tree i (Comment mark) kids later) = refl
 
-marked-renumbered : (mark : Mark) (first : ℕ) (later : Forest) (one other : Levels) → one ≡ other → marked mark (renumbered first later) one ≡ marked mark later other
-marked-renumbered Complete first later one other same = ap (marked Complete later) same
-marked-renumbered Pending first later one other same = ap (marked Pending later) same
-marked-renumbered Client first later one other same =
-    ap (λ digest. opened kind.Client digest one.first one.rest) (digest_after-renumbered first later) ∙ ap (marked Client later) same
-marked-renumbered End first later one other same = ap (marked End later) same
-marked-renumbered Space first later one other same = same
+levels_at_mark-numbered_from : (mark : Mark) (first : ℕ) (later : Forest) (one other : Levels) → one ≡ other → levels_at_mark mark (numbered_from first later) one ≡ levels_at_mark mark later other
+levels_at_mark-numbered_from Complete first later one other same = ap (levels_at_mark Complete later) same
+levels_at_mark-numbered_from Pending first later one other same = ap (levels_at_mark Pending later) same
+levels_at_mark-numbered_from Client first later one other same =
+    ap (λ digest. levels_at_boundary kind.Client digest one.first one.rest) (digest_after-numbered_from first later) ∙ ap (levels_at_mark Client later) same
+levels_at_mark-numbered_from End first later one other same = ap (levels_at_mark End later) same
+levels_at_mark-numbered_from Space first later one other same = same
 
-levels_of-renumbered : (prefix : List ℕ) (at_top : Bool) (first : ℕ) (forest : Forest) → levels_of prefix at_top (renumbered first forest) ≡ levels_of prefix at_top forest
-levels_of-renumbered prefix at_top first empty = refl
-levels_of-renumbered prefix at_top first (tree i (Element name attributes) kids later) =
+levels_of-numbered_from : (prefix : List ℕ) (at_top : Bool) (first : ℕ) (forest : Forest) → levels_of prefix at_top (numbered_from first forest) ≡ levels_of prefix at_top forest
+levels_of-numbered_from prefix at_top first empty = refl
+levels_of-numbered_from prefix at_top first (tree i (Element name attributes) kids later) =
     let out = is_left_out prefix at_top name attributes in
     let after = first + 1 + count kids in
-    ap (λ (l : Levels). if out then l else with_first (element name attributes (siblings_of (levels_of prefix false (renumbered (first + 1) kids)))) l)
-    (levels_of-renumbered prefix at_top after later)
+    ap (λ (l : Levels). if out then l else with_first (element name attributes (siblings_of (levels_of prefix false (numbered_from (first + 1) kids)))) l)
+    (levels_of-numbered_from prefix at_top after later)
     ∙ ap (λ (l : Levels). if out then levels_of prefix at_top later else with_first (element name attributes (siblings_of l)) (levels_of prefix at_top later))
-    (levels_of-renumbered prefix false (first + 1) kids)
-levels_of-renumbered prefix at_top first (tree i (Text t) kids later) = ap (with_first (text t)) (levels_of-renumbered prefix at_top (first + 1 + count kids) later)
-levels_of-renumbered prefix at_top first (tree i (Comment mark) kids later) =
-    marked-renumbered mark (first + 1 + count kids) later (levels_of prefix at_top (renumbered (first + 1 + count kids) later)) (levels_of prefix at_top later)
-    (levels_of-renumbered prefix at_top (first + 1 + count kids) later)
+    (levels_of-numbered_from prefix false (first + 1) kids)
+levels_of-numbered_from prefix at_top first (tree i (Text t) kids later) = ap (with_first (text t)) (levels_of-numbered_from prefix at_top (first + 1 + count kids) later)
+levels_of-numbered_from prefix at_top first (tree i (Comment mark) kids later) =
+    levels_at_mark-numbered_from mark (first + 1 + count kids) later (levels_of prefix at_top (numbered_from (first + 1 + count kids) later)) (levels_of prefix at_top later)
+    (levels_of-numbered_from prefix at_top (first + 1 + count kids) later)
 
 -- A view says nothing of ids.
-pub view_of-renumbered : (prefix : List ℕ) (first : ℕ) (forest : Forest) → view_of prefix (renumbered first forest) ≡ view_of prefix forest
-view_of-renumbered prefix first forest = ap siblings_of (levels_of-renumbered prefix true first forest)
+pub view_of-numbered_from : (prefix : List ℕ) (first : ℕ) (forest : Forest) → view_of prefix (numbered_from first forest) ≡ view_of prefix forest
+view_of-numbered_from prefix first forest = ap siblings_of (levels_of-numbered_from prefix true first forest)
 
 levels_of-plain : (prefix : List ℕ) (at_top : Bool) (forest : Forest) → IsPlain prefix at_top forest → levels_of prefix at_top forest ≡ record { first = plain_view forest; rest = [] }
 levels_of-plain prefix at_top empty plain = refl

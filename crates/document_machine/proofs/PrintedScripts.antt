@@ -7,13 +7,13 @@ use Rattle.fizz_instructions.specs.Bodies.{IsInstruction, body_of, script_of, fu
 use Rattle.fizz_instructions.specs.Sending.{has, with_function}
 use Rattle.fizz_instructions.specs.Reading.{Says}
 use Rattle.fizz_instructions.specs.declared.instruction.Instruction.{Instruction}
-use Rattle.document_machine.specs.Running.{PageState, ids_of, acted}
+use Rattle.document_machine.specs.Running.{PageState, ids_of, edit_of}
 use Rattle.document_machine.specs.Documents.{runs, Runs, LeavesNoRest}
 use Rattle.document_machine.proofs.LowerLaws.{TokenLaws, ScriptLaws}
 use Rattle.document_machine.proofs.TokenRuns.{tokens_run}
 
 pub script_says : TokenLaws → ScriptLaws → (prefix : List ℕ) (start : PageState) (i : Instruction) (defines : Bool) (dom : DomState) → IsInstruction i → (defines ≡ false → has start.known (function_of i) ≡ true)
-    → acted prefix (ids_of start.opened) i start.dom ≡ Ok dom
+    → edit_of prefix (ids_of start.opened) i start.dom ≡ Ok dom
     → (run : Runs prefix start (script_of prefix i defines) (record start { dom = dom; known = with_function start.known (function_of i) })) × LeavesNoRest run
 script_says laws scripts prefix start i defines dom valid known acts =
     let body : List ℕ = body_of prefix i defines in

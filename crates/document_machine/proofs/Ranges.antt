@@ -2,7 +2,7 @@
 use Rattle.std.proofs.Common.{◌≡◌, ◌≢◌, ℕ, zero, suc, ◌+◌, ◌<◌, ◌==◌, eqb, false, if◌then◌else◌, Some, None, refl, sym, ap, ◌∙◌, subst, arith}
 use Rattle.std.proofs.lemmas.Bool.{cond-true, cond-false, eq-eqb, ne_eqb}
 use Rattle.dom_forest.specs.Forest.{Forest, empty, tree, times, from, first_id, first_later, later_of, next_of, IsThere}
-use Rattle.dom_forest.specs.Edits.{DomState, IsNumbered, changed, without}
+use Rattle.dom_forest.specs.Edits.{DomState, IsNumbered, with_change, without_node}
 use Rattle.document_machine.specs.Edits.{from_sibling, without_range}
 use Rattle.document_machine.proofs.Spots.{Spot, spot}
 use Rattle.document_machine.proofs.Shapes.{tops, tops_times}
@@ -11,7 +11,7 @@ use Rattle.document_machine.proofs.Numbering.{numbered_without}
 
 -- the forest without the siblings from a node, itself included, up to the end
 abbrev pub cut_from : ℕ → ℕ → Forest → Forest
-cut_from node end forest = changed node (λ content kids later. from_sibling end (tree node content kids later)) forest
+cut_from node end forest = with_change node (λ content kids later. from_sibling end (tree node content kids later)) forest
 
 -- Some of the siblings are gone, and the next to go is a node, or it is the end.
 pub record IsCut (first end : ℕ) (old : DomState) (node : ℕ) (now : DomState) : Type 0 where
@@ -47,7 +47,7 @@ cut_start first end old d h =
     record {
       numbered = d;
       stands = among;
-      rest = ap (λ b. changed first (λ content kids later. if b then tree first content kids later else from_sibling end later) old.forest) (past_itself end first old d s after);
+      rest = ap (λ b. with_change first (λ content kids later. if b then tree first content kids later else from_sibling end later) old.forest) (past_itself end first old d s after);
       next = refl;
     } where
       later_among : (forest : Forest) → 0 < tops end (first_later forest) → 0 < tops end forest
@@ -99,11 +99,11 @@ module _ (first end node : ℕ) (old now : DomState) (x : IsCut first end old no
       x.numbered.once n,
     )
 
-    gone_from : from n (without node now).forest ≡ here.later
+    gone_from : from n (without_node node now).forest ≡ here.later
     gone_from =
         ap (from n) (here.edited (λ content kids later. later)) ∙ here.reaches n here.later outside_none ∙ first_from n here.later later_first
 
-    pub cut_step : IsCut first end old n (without node now)
+    pub cut_step : IsCut first end old n (without_node node now)
     cut_step =
         let past : (if node == end then 1 else 0) ≡ zero = cond-false (eqb node end) _ _ (ne_eqb node end other) in
         record {
@@ -119,7 +119,7 @@ module _ (first end node : ℕ) (old now : DomState) (x : IsCut first end old no
           next = x.next;
         }
 
-    pub cut_smaller : width (from n (without node now).forest) < width (from node now.forest)
+    pub cut_smaller : width (from n (without_node node now).forest) < width (from node now.forest)
     cut_smaller = omega (arith, ap width gone_from, ap width here.found)
 
   pub cut_end : node ≡ end → now ≡ without_range first end old

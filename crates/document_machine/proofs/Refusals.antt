@@ -17,7 +17,7 @@ use Rattle.document_machine.specs.declared.edits.EditFault.TheVariants as edit
 use Rattle.document_machine.specs.declared.fault.MachineFault.{MachineFault}
 use Rattle.document_machine.specs.declared.fault.MachineFault.TheVariants.{Html, UnknownFunction, NoSuchId, NotBoundary, OutOfMemory}
 use Rattle.document_machine.specs.Edits.{Edited}
-use Rattle.document_machine.specs.Running.{PageState, ids_of, acted}
+use Rattle.document_machine.specs.Running.{PageState, ids_of, edit_of}
 use Rattle.document_machine.specs.Documents.{most_open, Step}
 use Rattle.document_machine.specs.Faults.{Refuses, closes_nothing, closes_another, opens_too_many, says_nothing, calls_unknown, misses, finds_no_boundary}
 use Rattle.document_machine.proofs.LowerLaws.{ScriptLaws}
@@ -35,7 +35,7 @@ fault_of from edit.OutOfMemory = OutOfMemory
 data ScriptRefused (prefix : List ℕ) (a : PageState) (body : List ℕ) (from : ℕ) (fault : MachineFault) : Type 0 where
   nothing_said : IsNoBody prefix body → fault ≡ Html from → ScriptRefused prefix a body from fault
   unknown_called : CallsUnknown prefix body a.known → fault ≡ UnknownFunction from → ScriptRefused prefix a body from fault
-  not_done : (i : Instruction) (e : EditFault) → Says prefix body a.known i → acted prefix (ids_of a.opened) i a.dom ≡ Err e → fault ≡ fault_of from e → ScriptRefused prefix a body from fault
+  not_done : (i : Instruction) (e : EditFault) → Says prefix body a.known i → edit_of prefix (ids_of a.opened) i a.dom ≡ Err e → fault ≡ fault_of from e → ScriptRefused prefix a body from fault
 
 -- What a refusal is, by its token.
 abbrev IsRefused : List ℕ → PageState → Token → MachineFault → Type 0
@@ -85,7 +85,7 @@ runs_or_not laws prefix utf8 a body from c fault s (nothing_said none is) = none
 runs_or_not laws prefix utf8 a body from c fault s (unknown_called calls is) = said_is_known laws prefix utf8 body a.known s.instruction s.said calls
 runs_or_not laws prefix utf8 a body from c fault s (not_done i e said acts is) =
     let same : s.instruction ≡ i = one_said laws prefix utf8 body a.known a.known s.instruction i s.said said in
-    done_or_not s.dom e (sym s.acts ∙ (ap (λ x. acted prefix (ids_of a.opened) x a.dom) same ∙ acts))
+    done_or_not s.dom e (sym s.acts ∙ (ap (λ x. edit_of prefix (ids_of a.opened) x a.dom) same ∙ acts))
 
 leads_or_refused : ScriptLaws → (prefix : List ℕ) → IsUtf8 prefix → (a : PageState) (t : Token) (c : PageState) (fault : MachineFault) → LeadsTo prefix a t c → IsRefused prefix a t fault → ⊥
 leads_or_refused laws prefix utf8 a (tok.Start name attributes from) c fault s r = omega (arith, s.0, r.0)
@@ -106,7 +106,7 @@ scripts_refused_one laws prefix utf8 a body from f g (not_done i e said acts is)
 scripts_refused_one laws prefix utf8 a body from f g (not_done i e said acts is) (unknown_called calls are) = absurd (said_is_known laws prefix utf8 body a.known i said calls)
 scripts_refused_one laws prefix utf8 a body from f g (not_done i e said acts is) (not_done j d other does are) =
     let same : i ≡ j = one_said laws prefix utf8 body a.known a.known i j said other in
-    let causes : e ≡ d = faults_same e d (sym acts ∙ (ap (λ x. acted prefix (ids_of a.opened) x a.dom) same ∙ does)) in
+    let causes : e ≡ d = faults_same e d (sym acts ∙ (ap (λ x. edit_of prefix (ids_of a.opened) x a.dom) same ∙ does)) in
     is ∙ (ap (fault_of from) causes ∙ sym are)
 
 refused_one : ScriptLaws → (prefix : List ℕ) → IsUtf8 prefix → (a : PageState) (t : Token) (f g : MachineFault) → IsRefused prefix a t f → IsRefused prefix a t g → f ≡ g

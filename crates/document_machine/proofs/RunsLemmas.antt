@@ -1,8 +1,8 @@
 -- What runs keep, and what the first bytes of a run do.
-use Rattle.std.proofs.Common.{◌≡◌, ◌≢◌, ◌⊎◌, ℕ, zero, ◌+◌, ◌<◌, ◌≤◌, ◌==◌, eqb, Bool, true, false, if◌then◌else◌, inl, inr, Option, Some, None, Result, Ok, Err, List, [], ◌∷◌, ◌++◌, refl, sym, ap, ◌∙◌, subst, arith, append-nil, append_assoc}
-use Rattle.std.proofs.lemmas.Bool.{cond-false, eqb-true, ne_eqb, cases_eq, cases_lt}
-use Rattle.dom_forest.specs.Forest.{Forest, empty, tree, times, joined}
-use Rattle.dom_forest.specs.Edits.{DomState, IsNumbered, appended, inner_of, part_of, with_content, with_digest_at, without}
+use Rattle.std.proofs.Common.{◌≡◌, ◌≢◌, ◌⊎◌, ℕ, zero, ◌+◌, ◌≤◌, ◌==◌, eqb, Bool, true, false, if◌then◌else◌, inl, inr, Option, Some, None, Ok, Err, List, [], ◌∷◌, ◌++◌, refl, sym, ap, ◌∙◌, subst, arith, append-nil, append_assoc}
+use Rattle.std.proofs.lemmas.Bool.{cond-false, ne_eqb, cases_eq, cases_lt}
+use Rattle.dom_forest.specs.Forest.{empty, tree, times, joined_forests}
+use Rattle.dom_forest.specs.Edits.{DomState, IsNumbered, with_appended, inner_of, part_of, without_node}
 use Rattle.dom_forest.specs.Boundary.{end_of_boundary}
 use Rattle.dom_forest.specs.Ids.{element_with}
 use Rattle.dom_forest.specs.declared.node.NodeId.{NodeId}
@@ -10,21 +10,21 @@ use Rattle.dom_forest.specs.declared.node.NewNode.{NewNode}
 use Rattle.dom_forest.specs.declared.node.NewNode.TheVariants.{Comment, Text}
 use Rattle.fizz_instructions.specs.Bodies.{boundary_id, function_of, placeholder_id, segment_id}
 use Rattle.fizz_instructions.specs.Reading.{Says}
-use Rattle.fizz_instructions.specs.Sending.{has, with_function}
+use Rattle.fizz_instructions.specs.Sending.{with_function}
 use Rattle.fizz_instructions.specs.declared.functions.Function.{Function}
 use Rattle.fizz_instructions.specs.declared.functions.Function.TheVariants.{CompleteBoundary, CompleteSegment, ClientRenderBoundary}
 use Rattle.fizz_instructions.specs.declared.instruction.Instruction.{Instruction}
 use Rattle.fizz_instructions.specs.declared.instruction.Instruction.TheVariants as instruction
 use Rattle.fizz_instructions.specs.declared.instruction.SentFunctions.{SentFunctions}
-use Rattle.html_read.specs.Faults.{IsBegun, Splits, SplitsBefore, begins_tag, ends_in_text}
+use Rattle.html_read.specs.Faults.{IsBegun, Splits, SplitsBefore, begins_tag}
 use Rattle.html_read.specs.Rests.{IsWholeText}
-use Rattle.html_read.specs.Tokens.{IsToken, is_text, spelling}
+use Rattle.html_read.specs.Tokens.{is_text, spelling}
 use Rattle.html_read.specs.declared.token.Token.{Token}
 use Rattle.html_read.specs.declared.token.Token.TheVariants as tok
 use Rattle.document_machine.specs.declared.edits.EditFault.{EditFault}
-use Rattle.document_machine.specs.Edits.{Edited, client_render, client_render_at, client_render_from, closed_with, complete_boundary, complete_from, fill_at, fill_from, fill_placeholder, fill_with, marker_of, reveal, reveal_at, with_digest_unless_empty}
-use Rattle.document_machine.specs.Running.{PageState, acted, ids_of, with_node}
-use Rattle.document_machine.specs.Documents.{IsTextAtEnd, LeavesNoRest, Runs, Step, Steps, ends, marks, runs, says, stands, starts}
+use Rattle.document_machine.specs.Edits.{Edited, client_render_at, client_render_from, closed_with, complete_from, fill_from, fill_with, marker_of, reveal, reveal_at, with_digest_unless_empty}
+use Rattle.document_machine.specs.Running.{PageState, edit_of, ids_of, with_node}
+use Rattle.document_machine.specs.Documents.{LeavesNoRest, Runs, Step, Steps, ends, marks, runs, says, stands, starts}
 use Rattle.document_machine.specs.Knowing.{KnowsMore, RunsKnowing, RunsSomewhere, with_known}
 use Rattle.document_machine.proofs.Numbering.{joined_times, numbered_before, numbered_content, numbered_digest, numbered_range, numbered_without}
 use Rattle.document_machine.proofs.OneStep.{StepsOver, steps_over}
@@ -35,15 +35,15 @@ use Rattle.document_machine.proofs.TokenRuns.{nothing_true}
 -- Each id stands once after a run where it did before.
 
 appended_times : (j : ℕ) (parent : Option NodeId) (node : NewNode) (dom : DomState) → IsNumbered dom
-    → times j (appended parent node dom).forest ≤ times j dom.forest + (if dom.next == j then 1 else 0)
+    → times j (with_appended parent node dom).forest ≤ times j dom.forest + (if dom.next == j then 1 else 0)
 appended_times j None node dom d = omega (arith, joined_times j dom.forest (tree dom.next node empty empty))
 appended_times j (Some parent) node dom d = elim (cases_eq (times parent.0 dom.forest) 0) [
-  | inl none ↦ omega (arith, ap (times j) ((absent parent.0 dom.forest none).same (λ content kids later. tree parent.0 content (joined kids (tree dom.next node empty empty)) later)))
+  | inl none ↦ omega (arith, ap (times j) ((absent parent.0 dom.forest none).same (λ content kids later. tree parent.0 content (joined_forests kids (tree dom.next node empty empty)) later)))
   | inr some ↦ let s = spot parent.0 dom.forest (omega (arith, d.once parent.0)) in
       omega (
         arith,
-        ap (times j) (s.edited (λ content kids later. tree parent.0 content (joined kids (tree dom.next node empty empty)) later)),
-        s.counts j (tree parent.0 s.content (joined s.kids (tree dom.next node empty empty)) s.later),
+        ap (times j) (s.edited (λ content kids later. tree parent.0 content (joined_forests kids (tree dom.next node empty empty)) later)),
+        s.counts j (tree parent.0 s.content (joined_forests s.kids (tree dom.next node empty empty)) s.later),
         joined_times j s.kids (tree dom.next node empty empty),
         ap (times j) s.is,
         s.counts j (tree parent.0 s.content s.kids s.later),
@@ -57,7 +57,7 @@ at_most_one : (b : Bool) → (if b then 1 else 0) ≤ 1
 at_most_one true = omega arith
 at_most_one false = omega arith
 
-numbered_appended : (parent : Option NodeId) (node : NewNode) (dom : DomState) → IsNumbered dom → IsNumbered (appended parent node dom)
+numbered_appended : (parent : Option NodeId) (node : NewNode) (dom : DomState) → IsNumbered dom → IsNumbered (with_appended parent node dom)
 numbered_appended parent node dom d = record {
   once = λ j. elim (cases_lt j dom.next) [
     | inl old ↦ omega (arith, appended_times j parent node dom d, other_id dom.next j (omega arith), d.once j)
@@ -93,7 +93,7 @@ reveal_keeps container old dom (Some template) d = reveal_at_keeps template cont
 complete_keeps : (segment boundary : List ℕ) (dom : DomState) (container : Option ℕ) → IsNumbered dom → KeepsNumbers (complete_from segment boundary dom container)
 complete_keeps segment boundary dom None d = refused _
 complete_keeps segment boundary dom (Some container) d =
-    reveal_keeps container dom (without container dom) (element_with boundary (without container dom).forest) (numbered_without container dom d)
+    reveal_keeps container dom (without_node container dom) (element_with boundary (without_node container dom).forest) (numbered_without container dom d)
 
 fill_from_keeps : (id : List ℕ) (dom : DomState) (container : ℕ) (placeholder : Option ℕ) → IsNumbered dom → KeepsNumbers (fill_from id dom container placeholder)
 fill_from_keeps id dom container None d = refused _
@@ -116,7 +116,7 @@ client_keeps : (digest : List ℕ) (dom : DomState) (template : Option ℕ) → 
 client_keeps digest dom None d = made dom d
 client_keeps digest dom (Some template) d = client_at_keeps template digest dom (marker_of template dom.forest) d
 
-acted_keeps : (prefix opened : List ℕ) (i : Instruction) (dom : DomState) → IsNumbered dom → KeepsNumbers (acted prefix opened i dom)
+acted_keeps : (prefix opened : List ℕ) (i : Instruction) (dom : DomState) → IsNumbered dom → KeepsNumbers (edit_of prefix opened i dom)
 acted_keeps prefix opened (instruction.Complete boundary segment) dom d =
     let id : List ℕ = segment_id prefix segment in complete_keeps id (boundary_id prefix boundary) dom (closed_with opened id dom.forest) d
 acted_keeps prefix opened (instruction.Segment segment) dom d =

@@ -1,5 +1,5 @@
 -- The parts of a view are seen as the view, make its settled document, and have its boundaries.
-use Rattle.std.proofs.Common.{◌≡◌, ℕ, ◌+◌, ◌-◌, ◌^◌, Bool, true, false, if◌then◌else◌, List, [], ◌∷◌, ◌++◌, min, refl, sym, ap, ◌∙◌, arith, append_assoc, append-nil}
+use Rattle.std.proofs.Common.{◌≡◌, ◌+◌, ◌-◌, ◌^◌, Bool, List, [], ◌∷◌, ◌++◌, min, refl, sym, ap, ◌∙◌, arith, append_assoc, append-nil}
 use Rattle.dom_forest.specs.Documents as document
 use Rattle.dom_forest.specs.Documents.{NodeLevels, nodes_in}
 use Rattle.dom_forest.specs.declared.document.DocNode.{DocNode}
@@ -10,36 +10,36 @@ use Rattle.document_machine.specs.declared.view.ViewPart.TheVariants.{EndOfEleme
 use Rattle.document_machine.specs.declared.view.Counts.{Counts}
 use Rattle.document_machine.specs.Settled.{any_kind, counts_of, is_failed, is_pending, nodes_of, number_of}
 use Rattle.document_machine.specs.Settling.{counts_with, doc_parts, number_in}
-use Rattle.document_machine.specs.Shown.{levels_after, levels_of_parts, seen, view_parts}
-use Rattle.document_machine.specs.Views.{View, end, text, element, boundary, Levels, ended, followed, with_first}
+use Rattle.document_machine.specs.Shown.{levels_after, levels_of_parts, view_of_parts, view_parts}
+use Rattle.document_machine.specs.Views.{View, end, text, element, boundary, Levels, joined_views, with_first}
 
-followed-end : (v : View) → followed v end ≡ v
-followed-end end = refl
-followed-end (text t l) = ap (text t) (followed-end l)
-followed-end (element n attrs k l) = ap (element n attrs k) (followed-end l)
-followed-end (boundary s d k l) = ap (boundary s d k) (followed-end l)
+joined_views-end : (v : View) → joined_views v end ≡ v
+joined_views-end end = refl
+joined_views-end (text t l) = ap (text t) (joined_views-end l)
+joined_views-end (element n attrs k l) = ap (element n attrs k) (joined_views-end l)
+joined_views-end (boundary s d k l) = ap (boundary s d k) (joined_views-end l)
 
-levels_of_parts-view : (v : View) (more : List ViewPart) → levels_of_parts (view_parts v more) ≡ with_first (followed v) (levels_of_parts more)
+levels_of_parts-view : (v : View) (more : List ViewPart) → levels_of_parts (view_parts v more) ≡ with_first (joined_views v) (levels_of_parts more)
 levels_of_parts-view end more = refl
 levels_of_parts-view (text t l) more = ap (with_first (text t)) (levels_of_parts-view l more)
 levels_of_parts-view (element n attrs k l) more =
     let after : Levels = levels_of_parts (view_parts l more) in
     ap (λ (x : Levels). with_first (element n attrs x.first) (levels_after x.rest)) (levels_of_parts-view k (EndOfElement ∷ view_parts l more))
-    ∙ ap (λ v. with_first (element n attrs v) after) (followed-end k) ∙ ap (with_first (element n attrs k)) (levels_of_parts-view l more)
+    ∙ ap (λ v. with_first (element n attrs v) after) (joined_views-end k) ∙ ap (with_first (element n attrs k)) (levels_of_parts-view l more)
 levels_of_parts-view (boundary s d k l) more =
     let after : Levels = levels_of_parts (view_parts l more) in
     ap (λ (x : Levels). with_first (boundary s d x.first) (levels_after x.rest)) (levels_of_parts-view k (EndOfBoundary ∷ view_parts l more))
-    ∙ ap (λ v. with_first (boundary s d v) after) (followed-end k) ∙ ap (with_first (boundary s d k)) (levels_of_parts-view l more)
+    ∙ ap (λ v. with_first (boundary s d v) after) (joined_views-end k) ∙ ap (with_first (boundary s d k)) (levels_of_parts-view l more)
 
-pub seen-view_parts : (v : View) → seen (view_parts v []) ≡ v
-seen-view_parts v = ap (λ (x : Levels). x.first) (levels_of_parts-view v []) ∙ followed-end v
+pub view_of_parts-view_parts : (v : View) → view_of_parts (view_parts v []) ≡ v
+view_of_parts-view_parts v = ap (λ (x : Levels). x.first) (levels_of_parts-view v []) ∙ joined_views-end v
 
 -- What is made of the parts of a view is seen as it, and is its parts.
-pub whole_parts : (v : View) (parts : List ViewPart) → parts ≡ view_parts v [] → parts ≡ view_parts (seen parts) []
-whole_parts v parts is = is ∙ ap (λ w. view_parts w []) (sym (seen-view_parts v) ∙ ap seen (sym is))
+pub whole_parts : (v : View) (parts : List ViewPart) → parts ≡ view_parts v [] → parts ≡ view_parts (view_of_parts parts) []
+whole_parts v parts is = is ∙ ap (λ w. view_parts w []) (sym (view_of_parts-view_parts v) ∙ ap view_of_parts (sym is))
 
-pub parts_seen : (v : View) (parts : List ViewPart) → parts ≡ view_parts v [] → seen parts ≡ v
-parts_seen v parts is = ap seen is ∙ seen-view_parts v
+pub parts_seen : (v : View) (parts : List ViewPart) → parts ≡ view_parts v [] → view_of_parts parts ≡ v
+parts_seen v parts is = ap view_of_parts is ∙ view_of_parts-view_parts v
 
 -- The settled document
 

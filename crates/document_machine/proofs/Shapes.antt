@@ -5,7 +5,7 @@ use Rattle.dom_forest.specs.declared.node.Mark.TheVariants.{Space}
 use Rattle.dom_forest.specs.declared.node.NewNode.{NewNode}
 use Rattle.dom_forest.specs.declared.node.NewNode.TheVariants.{Comment}
 use Rattle.dom_forest.specs.Forest.{Forest, empty, tree, times, or_else, from, first_content, content_of}
-use Rattle.dom_forest.specs.Edits.{changed}
+use Rattle.dom_forest.specs.Edits.{with_change}
 
 -- How often an id stands among the siblings themselves.
 abbrev pub tops : ℕ → Forest → ℕ
@@ -22,7 +22,7 @@ shape (tree i content kids later) = tree i (Comment Space) (shape kids) (shape l
 
 -- the forest with another content of a node
 abbrev pub dressed : ℕ → (NewNode → NewNode) → Forest → Forest
-dressed id dress forest = changed id (λ content kids later. tree id (dress content) kids later) forest
+dressed id dress forest = with_change id (λ content kids later. tree id (dress content) kids later) forest
 
 shape_times : (j : ℕ) (forest : Forest) → times j (shape forest) ≡ times j forest
 shape_times j empty = refl

@@ -4,7 +4,7 @@ use Rattle.std.specs.List.{list_any}
 use Rattle.std.proofs.lemmas.Bool.{cond-true, cond-false, eqb-true, eq-eqb, ne_eqb}
 use Rattle.dom_forest.specs.declared.node.NewNode.{NewNode}
 use Rattle.dom_forest.specs.Forest.{Forest, empty, tree, times, or_else, from}
-use Rattle.dom_forest.specs.Edits.{changed}
+use Rattle.dom_forest.specs.Edits.{with_change}
 use Rattle.document_machine.specs.Paths.{IsPath}
 
 abbrev pub Change : Type 0
@@ -13,7 +13,7 @@ Change = NewNode → Forest → Forest → Forest
 -- What is known of an id that is not there.
 pub record Absent (id : ℕ) (forest : Forest) : Type 0 where
   pub from_is : from id forest ≡ empty
-  pub same : (change : NewNode → Forest → Forest → Forest) → changed id change forest ≡ forest
+  pub same : (change : NewNode → Forest → Forest → Forest) → with_change id change forest ≡ forest
 
 absent_tree : (id i : ℕ) (content : NewNode) (kids later : Forest) (b : Bool) → (i == id) ≡ b
     → (if b then 1 else 0) + times id kids + times id later ≡ 0
@@ -24,7 +24,7 @@ absent_tree id i content kids later false e none inner after =
     let l = after (omega arith) in
     record {
       from_is = cond-false (eqb i id) _ _ e ∙ ap (λ f. or_else f (from id later)) k.from_is ∙ l.from_is;
-      same = λ change. cond-false (eqb i id) _ _ e ∙ ap (λ f. tree i content f (changed id change later)) (k.same change) ∙ ap (tree i content kids) (l.same change);
+      same = λ change. cond-false (eqb i id) _ _ e ∙ ap (λ f. tree i content f (with_change id change later)) (k.same change) ∙ ap (tree i content kids) (l.same change);
     }
 
 pub absent : (id : ℕ) (forest : Forest) → times id forest ≡ 0 → Absent id forest
@@ -56,10 +56,10 @@ pub record Spot (id : ℕ) (forest : Forest) : Type 0 where
   pub kids : Forest
   pub later : Forest
   pub is : forest ≡ around (tree id content kids later)
-  pub edited : (change : NewNode → Forest → Forest → Forest) → changed id change forest ≡ around (change content kids later)
+  pub edited : (change : NewNode → Forest → Forest → Forest) → with_change id change forest ≡ around (change content kids later)
   pub found : from id forest ≡ tree id content kids later
   pub counts : (j : ℕ) (f : Forest) → times j (around f) ≡ outside j + times j f
-  pub passes : (j : ℕ) (change : NewNode → Forest → Forest → Forest) (f : Forest) → outside j ≡ 0 → changed j change (around f) ≡ around (changed j change f)
+  pub passes : (j : ℕ) (change : NewNode → Forest → Forest → Forest) (f : Forest) → outside j ≡ 0 → with_change j change (around f) ≡ around (with_change j change f)
   pub reaches : (j : ℕ) (f : Forest) → outside j ≡ 0 → from j (around f) ≡ from j f
   pub keeps : (os : List ℕ) (test : ℕ → Bool) (f : Forest) → IsPath os forest → list_any test os ≡ false
       → ((o : ℕ) (rest : List ℕ) → test o ≡ false → IsPath (o ∷ rest) (tree id content kids later) → IsPath (o ∷ rest) f) → IsPath os (around f)
@@ -92,11 +92,11 @@ module _ (id i : ℕ) (content : NewNode) (kids later : Forest) where
     below f = tree i content (k.around f) later
 
     passes_below : (j : ℕ) (change : Change) (f : Forest) (b : Bool) → (i == j) ≡ b → (if b then 1 else 0) + k.outside j + times j later ≡ 0
-        → changed j change (below f) ≡ below (changed j change f)
+        → with_change j change (below f) ≡ below (with_change j change f)
     passes_below j change f true e none = absurd (omega arith)
     passes_below j change f false e none =
-        cond-false (eqb i j) _ _ e ∙ ap (λ x. tree i content x (changed j change later)) (k.passes j change f (omega arith))
-        ∙ ap (tree i content (k.around (changed j change f))) ((absent j later (omega arith)).same change)
+        cond-false (eqb i j) _ _ e ∙ ap (λ x. tree i content x (with_change j change later)) (k.passes j change f (omega arith))
+        ∙ ap (tree i content (k.around (with_change j change f))) ((absent j later (omega arith)).same change)
 
     reaches_below : (j : ℕ) (f : Forest) (b : Bool) → (i == j) ≡ b → (if b then 1 else 0) + k.outside j + times j later ≡ 0 → from j (below f) ≡ from j f
     reaches_below j f true e none = absurd (omega arith)
@@ -121,7 +121,7 @@ module _ (id i : ℕ) (content : NewNode) (kids later : Forest) where
           kids = k.kids;
           later = k.later;
           is = ap (λ f. tree i content f later) k.is;
-          edited = λ change. cond-false (eqb i id) _ _ (ne_eqb i id e) ∙ ap (λ f. tree i content f (changed id change later)) (k.edited change) ∙ ap (tree i content (k.around (change k.content k.kids k.later))) (gone.same change);
+          edited = λ change. cond-false (eqb i id) _ _ (ne_eqb i id e) ∙ ap (λ f. tree i content f (with_change id change later)) (k.edited change) ∙ ap (tree i content (k.around (change k.content k.kids k.later))) (gone.same change);
           found = cond-false (eqb i id) _ _ (ne_eqb i id e) ∙ ap (λ f. or_else f (from id later)) k.found;
           counts = λ j f. omega (arith, k.counts j f);
           passes = λ j change f none. passes_below j change f (i == j) refl none;
@@ -135,11 +135,11 @@ module _ (id i : ℕ) (content : NewNode) (kids later : Forest) where
     past f = tree i content kids (l.around f)
 
     passes_past : (j : ℕ) (change : Change) (f : Forest) (b : Bool) → (i == j) ≡ b → (if b then 1 else 0) + times j kids + l.outside j ≡ 0
-        → changed j change (past f) ≡ past (changed j change f)
+        → with_change j change (past f) ≡ past (with_change j change f)
     passes_past j change f true e none = absurd (omega arith)
     passes_past j change f false e none =
-        cond-false (eqb i j) _ _ e ∙ ap (tree i content (changed j change kids)) (l.passes j change f (omega arith))
-        ∙ ap (λ x. tree i content x (l.around (changed j change f))) ((absent j kids (omega arith)).same change)
+        cond-false (eqb i j) _ _ e ∙ ap (tree i content (with_change j change kids)) (l.passes j change f (omega arith))
+        ∙ ap (λ x. tree i content x (l.around (with_change j change f))) ((absent j kids (omega arith)).same change)
 
     reaches_past : (j : ℕ) (f : Forest) (b : Bool) → (i == j) ≡ b → (if b then 1 else 0) + times j kids + l.outside j ≡ 0 → from j (past f) ≡ from j f
     reaches_past j f true e none = absurd (omega arith)
@@ -163,7 +163,7 @@ module _ (id i : ℕ) (content : NewNode) (kids later : Forest) where
           kids = l.kids;
           later = l.later;
           is = ap (tree i content kids) l.is;
-          edited = λ change. cond-false (eqb i id) _ _ (ne_eqb i id e) ∙ ap (tree i content (changed id change kids)) (l.edited change) ∙ ap (λ f. tree i content f (l.around (change l.content l.kids l.later))) (gone.same change);
+          edited = λ change. cond-false (eqb i id) _ _ (ne_eqb i id e) ∙ ap (tree i content (with_change id change kids)) (l.edited change) ∙ ap (λ f. tree i content f (l.around (change l.content l.kids l.later))) (gone.same change);
           found = cond-false (eqb i id) _ _ (ne_eqb i id e) ∙ ap (λ f. or_else f (from id later)) gone.from_is ∙ l.found;
           counts = λ j f. omega (arith, l.counts j f);
           passes = λ j change f none. passes_past j change f (i == j) refl none;

@@ -5,7 +5,7 @@ use Rattle.fizz_text.specs.declared.attribute.Attr.{Attr}
 use Rattle.html_read.specs.declared.token.Token.{Token}
 use Rattle.html_read.specs.declared.token.Token.TheVariants as tok
 use Rattle.html_names.specs.declared.comments.CommentKind.{CommentKind}
-use Rattle.dom_forest.specs.Edits.{DomState, appended}
+use Rattle.dom_forest.specs.Edits.{DomState, with_appended}
 use Rattle.dom_forest.specs.declared.node.NewNode.TheVariants.{Element, Text, Comment}
 use Rattle.fizz_instructions.specs.declared.instruction.SentFunctions.{SentFunctions}
 use Rattle.document_machine.specs.declared.building.OpenElement.{OpenElement}
@@ -47,12 +47,12 @@ abbrev pub built : DomState → List OpenElement → SentFunctions → PageState
 built dom opened known = record { dom = dom; opened = opened; known = known }
 
 pub opens_step : (prefix : List ℕ) (dom new : DomState) (opened after : List OpenElement) (known : SentFunctions) (name : List ℕ) (attributes : List Attr) (from : ℕ)
-    → length opened < most_open → new ≡ appended (innermost opened) (Element name attributes) dom
+    → length opened < most_open → new ≡ with_appended (innermost opened) (Element name attributes) dom
     → after ≡ record { id = record { 0 = dom.next }; name = name } ∷ opened
     → Step prefix (built dom opened known) (tok.Start name attributes from) (built new after known)
 opens_step prefix dom new opened after known name attributes from room e f =
     subst (λ d. Step prefix (built dom opened known) (tok.Start name attributes from) (built d after known)) (sym e)
-    (subst (λ os. Step prefix (built dom opened known) (tok.Start name attributes from) (built (appended (innermost opened) (Element name attributes) dom) os known)) (sym f)
+    (subst (λ os. Step prefix (built dom opened known) (tok.Start name attributes from) (built (with_appended (innermost opened) (Element name attributes) dom) os known)) (sym f)
     (starts (built dom opened known) name attributes from room))
 
 pub open_cause : (prefix : List ℕ) (b : PageState) (name : List ℕ) (attributes : List Attr) (from : ℕ) (e : MachineFault)

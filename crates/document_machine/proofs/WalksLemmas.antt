@@ -1,5 +1,5 @@
 -- The parts of a view, as a walk goes over its document.
-use Rattle.std.proofs.Common.{◌≡◌, ℕ, ◌+◌, ◌<◌, ◌≤◌, if◌then◌else◌, Bool, true, false, Option, Some, None, List, [], ◌∷◌, ◌++◌, reverse, refl, ap, ◌∙◌, sym, arith, append_assoc, append-nil}
+use Rattle.std.proofs.Common.{◌≡◌, ℕ, ◌+◌, ◌<◌, ◌≤◌, if◌then◌else◌, Bool, false, Option, Some, None, List, [], ◌∷◌, ◌++◌, reverse, refl, ap, ◌∙◌, sym, arith, append_assoc, append-nil}
 use Rattle.std.proofs.lemmas.List.{reverse-append}
 use Rattle.fizz_text.specs.declared.attribute.Attr.{Attr}
 use Rattle.dom_forest.specs.Edits.{DomState, IsNumbered}
@@ -14,8 +14,8 @@ use Rattle.document_machine.specs.declared.view.ViewPart.TheVariants as part
 use Rattle.document_machine.specs.declared.viewing.Frame.{Frame}
 use Rattle.document_machine.specs.declared.viewing.Frame.TheVariants.{Element, Boundary}
 use Rattle.document_machine.specs.declared.viewing.Walk.{Walk}
-use Rattle.document_machine.specs.Shown.{levels_after, view_parts}
-use Rattle.document_machine.specs.Views.{View, end, element, boundary, text, Levels, ended, is_left_out, joined_levels, levels_of, opened, siblings_of, with_first}
+use Rattle.document_machine.specs.Shown.{view_parts}
+use Rattle.document_machine.specs.Views.{View, element, boundary, text, Levels, levels_at_end, is_left_out, joined_levels, levels_of, levels_at_boundary, siblings_of, with_first}
 use Rattle.document_machine.specs.Viewing.{all_parts, all_parts_from, frame_turns, frames_turns, no_levels, nodes_from, parts_to_end, turn_at, turns, walk_inside, with_frame}
 
 reverse_push : (frames : List Frame) (frame : Frame) → reverse (frames ++ frame ∷ []) ≡ frame ∷ reverse frames
@@ -52,7 +52,7 @@ boundary_joined s d k v (next ∷ rest) = refl
 
 -- A boundary is begun.
 opened_parts : (prefix : List ℕ) (forest : Forest) (frames : List Frame) (s : BoundaryStatus) (d : List ℕ) (first : View) (rest : List View)
-    → parts_to_end prefix forest frames (opened s d first rest) ≡ part.Boundary s d ∷ parts_to_end prefix forest (Boundary ∷ frames) (record { first = first; rest = rest })
+    → parts_to_end prefix forest frames (levels_at_boundary s d first rest) ≡ part.Boundary s d ∷ parts_to_end prefix forest (Boundary ∷ frames) (record { first = first; rest = rest })
 opened_parts prefix forest [] s d first [] = refl
 opened_parts prefix forest [] s d first (next ∷ rest) = ap (λ v. view_parts v []) (boundary_joined s d first next rest)
 opened_parts prefix forest (Element at_top later ∷ outer) s d first [] = refl
@@ -63,7 +63,7 @@ opened_parts prefix forest (Boundary ∷ outer) s d first (next ∷ rest) = refl
 
 pub opens_boundary : (prefix : List ℕ) (forest : Forest) (walk : Walk) (parts : List ViewPart) (frames : List Frame) (s : BoundaryStatus) (d : List ℕ) (levels : Levels)
     → parts ≡ walk.parts ++ part.Boundary s d ∷ [] → frames ≡ walk.frames ++ Boundary ∷ []
-    → all_parts prefix forest (record { parts = parts; frames = frames; at_top = walk.at_top }) levels ≡ all_parts prefix forest walk (opened s d levels.first levels.rest)
+    → all_parts prefix forest (record { parts = parts; frames = frames; at_top = walk.at_top }) levels ≡ all_parts prefix forest walk (levels_at_boundary s d levels.first levels.rest)
 opens_boundary prefix forest walk parts frames s d levels parts_are frames_are =
     ap (λ ps. ps ++ parts_to_end prefix forest (reverse frames) levels) parts_are
     ∙ ap (λ fs. (walk.parts ++ part.Boundary s d ∷ []) ++ parts_to_end prefix forest fs levels) (ap reverse frames_are ∙ reverse_push walk.frames Boundary)
@@ -73,27 +73,27 @@ opens_boundary prefix forest walk parts frames s d levels parts_are frames_are =
 -- A `/$`.
 pub ends_boundary : (prefix : List ℕ) (forest : Forest) (walk : Walk) (parts : List ViewPart) (frames : List Frame) (levels : Levels)
     → walk.frames ≡ frames ++ Boundary ∷ [] → parts ≡ walk.parts ++ part.EndOfBoundary ∷ []
-    → all_parts prefix forest (record { parts = parts; frames = frames; at_top = walk.at_top }) levels ≡ all_parts prefix forest walk (ended levels)
+    → all_parts prefix forest (record { parts = parts; frames = frames; at_top = walk.at_top }) levels ≡ all_parts prefix forest walk (levels_at_end levels)
 ends_boundary prefix forest walk parts frames levels split parts_are =
     ap (λ ps. ps ++ parts_to_end prefix forest (reverse frames) levels) parts_are
     ∙ append_assoc walk.parts (part.EndOfBoundary ∷ []) (parts_to_end prefix forest (reverse frames) levels)
-    ∙ ap (λ fs. walk.parts ++ parts_to_end prefix forest fs (ended levels)) (sym (ap reverse split ∙ reverse_push frames Boundary))
+    ∙ ap (λ fs. walk.parts ++ parts_to_end prefix forest fs (levels_at_end levels)) (sym (ap reverse split ∙ reverse_push frames Boundary))
 
 stray_parts : (prefix : List ℕ) (forest : Forest) (frames : List Frame) (levels : Levels) → ((outer : List Frame) → frames ≡ Boundary ∷ outer → ⊥)
-    → parts_to_end prefix forest frames levels ≡ parts_to_end prefix forest frames (ended levels)
+    → parts_to_end prefix forest frames levels ≡ parts_to_end prefix forest frames (levels_at_end levels)
 stray_parts prefix forest [] levels none = refl
 stray_parts prefix forest (Element at_top later ∷ outer) levels none = refl
 stray_parts prefix forest (Boundary ∷ outer) levels none = absurd (none outer refl)
 
 pub stray_outside : (prefix : List ℕ) (forest : Forest) (walk : Walk) (frames : List Frame) (levels : Levels) → walk.frames ≡ [] → frames ≡ []
-    → all_parts prefix forest (record walk { frames = frames }) levels ≡ all_parts prefix forest walk (ended levels)
+    → all_parts prefix forest (record walk { frames = frames }) levels ≡ all_parts prefix forest walk (levels_at_end levels)
 stray_outside prefix forest walk frames levels none same =
     ap (λ fs. walk.parts ++ parts_to_end prefix forest (reverse fs) levels) same
-    ∙ ap (λ fs. walk.parts ++ parts_to_end prefix forest (reverse fs) (ended levels)) (sym none)
+    ∙ ap (λ fs. walk.parts ++ parts_to_end prefix forest (reverse fs) (levels_at_end levels)) (sym none)
 
 pub stray_inside : (prefix : List ℕ) (forest : Forest) (walk : Walk) (frames rest : List Frame) (frame : Frame) (levels : Levels) → walk.frames ≡ rest ++ frame ∷ []
     → (frame ≡ Boundary → ⊥) → frames ≡ rest ++ frame ∷ []
-    → all_parts prefix forest (record walk { frames = frames }) levels ≡ all_parts prefix forest walk (ended levels)
+    → all_parts prefix forest (record walk { frames = frames }) levels ≡ all_parts prefix forest walk (levels_at_end levels)
 stray_inside prefix forest walk frames rest frame levels split other same =
     let order : reverse walk.frames ≡ frame ∷ reverse rest = ap reverse split ∙ reverse_push rest frame in
     ap (λ fs. walk.parts ++ parts_to_end prefix forest (reverse fs) levels) (same ∙ sym split)

@@ -11,7 +11,7 @@ use Rattle.fizz_instructions.specs.Sending.{with_function}
 use Rattle.fizz_instructions.specs.Reading.{Says}
 use Rattle.fizz_instructions.specs.declared.instruction.Instruction.{Instruction}
 use Rattle.document_machine.specs.declared.building.OpenElement.{OpenElement}
-use Rattle.document_machine.specs.Running.{PageState, at_first, ids_of, mark_of, with_node, with_open, acted}
+use Rattle.document_machine.specs.Running.{PageState, at_first, ids_of, mark_of, with_node, with_open, edit_of}
 
 -- The most elements that may be open.
 unfoldable pub most_open : ℕ
@@ -29,7 +29,7 @@ pub data Step (prefix : List ℕ) : PageState → Token → PageState → Type 0
   says : (b : PageState) (text : List ℕ) (from : ℕ) → Step prefix b (tok.Text text from) (with_node (Text text) b)
   marks : (b : PageState) (which : _) (from : ℕ) → Step prefix b (tok.Comment which from) (with_node (Comment (mark_of which)) b)
   runs : (b : PageState) (body : List ℕ) (from : ℕ) (i : Instruction) (dom : DomState) → Says prefix body b.known i →
-      acted prefix (ids_of b.opened) i b.dom ≡ Ok dom →
+      edit_of prefix (ids_of b.opened) i b.dom ≡ Ok dom →
       Step prefix b (tok.Script body from) (record b { dom = dom; known = with_function b.known (function_of i) })
 
 abbrev pub Steps : List ℕ → PageState → List Token → PageState → Type 0

@@ -3,7 +3,7 @@
 use Rattle.std.specs.Prelude.{◌≡◌, ℕ, Bool, true, false, ◌==◌, nat_lt, if◌then◌else◌, List, [], ◌∷◌, Option, Some, None, Result, Ok, Err}
 use Rattle.std.specs.List.{list_any}
 use Rattle.dom_forest.specs.Forest.{Forest, empty, tree, times, from, first_tree, content_of, previous_of}
-use Rattle.dom_forest.specs.Edits.{DomState, changed, without, part_of, inner_of, with_before, with_content, with_digest_at}
+use Rattle.dom_forest.specs.Edits.{DomState, with_change, without_node, part_of, inner_of, with_before, with_content, with_digest_at}
 use Rattle.dom_forest.specs.Boundary.{end_of_boundary}
 use Rattle.dom_forest.specs.Ids.{element_with}
 use Rattle.dom_forest.specs.declared.node.Mark.TheVariants.{Complete, Pending, Client, End, Space}
@@ -58,7 +58,7 @@ from_sibling id (tree i content kids later) = if i == id then tree i content kid
 -- The document without the siblings from one node up to another, which stays.
 abbrev pub without_range : ℕ → ℕ → DomState → DomState
 without_range first end dom =
-    record dom { forest = changed first (λ content kids later. from_sibling end later) dom.forest }
+    record dom { forest = with_change first (λ content kids later. from_sibling end later) dom.forest }
 
 -- The children of a node that was taken out stand before another node.
 abbrev pub with_children_before : ℕ → ℕ → DomState → DomState → DomState
@@ -66,14 +66,14 @@ with_children_before place container old dom = with_before place (inner_of (part
 
 -- The content of a boundary comes into its place: its marker becomes `$`, what stands up to its end goes, and the
 -- children of the container stand there.
-abbrev pub revealed : ℕ → ℕ → ℕ → ℕ → DomState → DomState → DomState
-revealed template marker end container old dom =
+abbrev pub with_content_revealed : ℕ → ℕ → ℕ → ℕ → DomState → DomState → DomState
+with_content_revealed template marker end container old dom =
     with_children_before end container old (without_range template end (with_content marker (Comment Complete) dom))
 
 abbrev pub reveal_at : ℕ → ℕ → DomState → DomState → Option ℕ → Option ℕ → Edited
 reveal_at template container old dom None end = Err NotBoundary
 reveal_at template container old dom (Some marker) None = Err NotBoundary
-reveal_at template container old dom (Some marker) (Some end) = Ok (revealed template marker end container old dom)
+reveal_at template container old dom (Some marker) (Some end) = Ok (with_content_revealed template marker end container old dom)
 
 -- Where the template is not there, the container alone is gone.
 abbrev pub reveal : ℕ → DomState → DomState → Option ℕ → Edited
@@ -84,7 +84,7 @@ reveal container old dom (Some template) =
 abbrev pub complete_from : List ℕ → List ℕ → DomState → Option ℕ → Edited
 complete_from segment boundary dom None = Err (NoSuchId segment)
 complete_from segment boundary dom (Some container) =
-    let dom' = without container dom in
+    let dom' = without_node container dom in
     reveal container dom dom' (element_with boundary dom'.forest)
 
 -- `$RC`: the container goes first. Then the boundary's template is looked for.
@@ -96,7 +96,7 @@ abbrev pub fill_at : List ℕ → ℕ → ℕ → DomState → Edited
 fill_at id placeholder container dom =
     if nat_lt 0 (times placeholder (first_tree (from container dom.forest)))
     then Err (NoSuchId id)
-    else Ok (without placeholder (with_children_before placeholder container dom (without container dom)))
+    else Ok (without_node placeholder (with_children_before placeholder container dom (without_node container dom)))
 
 abbrev pub fill_from : List ℕ → DomState → ℕ → Option ℕ → Edited
 fill_from id dom container None = Err (NoSuchId id)

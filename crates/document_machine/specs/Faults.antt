@@ -11,7 +11,7 @@ use Rattle.document_machine.specs.declared.building.OpenElement.{OpenElement}
 use Rattle.document_machine.specs.declared.edits.EditFault.TheVariants as edit
 use Rattle.document_machine.specs.declared.fault.MachineFault.{MachineFault}
 use Rattle.document_machine.specs.declared.fault.MachineFault.TheVariants.{Html, UnknownFunction, NoSuchId, NotBoundary}
-use Rattle.document_machine.specs.Running.{PageState, ids_of, acted}
+use Rattle.document_machine.specs.Running.{PageState, ids_of, edit_of}
 use Rattle.document_machine.specs.Documents.{most_open, Steps, IsTextAtEnd}
 
 -- What a token does that can't be followed. An end tag closes nothing, or another element than the innermost; a start
@@ -29,9 +29,9 @@ pub data Refuses (prefix : List ℕ) : PageState → Token → MachineFault → 
   calls_unknown : (b : PageState) (body : List ℕ) (from : ℕ) → CallsUnknown prefix body b.known →
       Refuses prefix b (tok.Script body from) (UnknownFunction from)
   misses : (b : PageState) (body : List ℕ) (from : ℕ) (i : Instruction) (id : List ℕ) → Says prefix body b.known i →
-      acted prefix (ids_of b.opened) i b.dom ≡ Err (edit.NoSuchId id) → Refuses prefix b (tok.Script body from) (NoSuchId from id)
+      edit_of prefix (ids_of b.opened) i b.dom ≡ Err (edit.NoSuchId id) → Refuses prefix b (tok.Script body from) (NoSuchId from id)
   finds_no_boundary : (b : PageState) (body : List ℕ) (from : ℕ) (i : Instruction) → Says prefix body b.known i →
-      acted prefix (ids_of b.opened) i b.dom ≡ Err edit.NotBoundary → Refuses prefix b (tok.Script body from) (NotBoundary from)
+      edit_of prefix (ids_of b.opened) i b.dom ≡ Err edit.NotBoundary → Refuses prefix b (tok.Script body from) (NotBoundary from)
 
 -- The first token that can't be followed, after tokens that could.
 pub record StopsAtToken (prefix : List ℕ) (start : PageState) (bytes : List ℕ) (fault : MachineFault) : Type 0 where

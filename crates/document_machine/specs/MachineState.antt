@@ -10,7 +10,7 @@ use Rattle.document_machine.specs.declared.view.View.{View as Seen}
 use Rattle.document_machine.specs.Running.{PageState, at_first}
 use Rattle.document_machine.specs.Documents.{Steps, Runs, RunsWhole}
 use Rattle.document_machine.specs.Faults.{HasMachineFault, EndsEarly, Refuses}
-use Rattle.document_machine.specs.Shown.{seen}
+use Rattle.document_machine.specs.Shown.{view_of_parts}
 use Rattle.document_machine.specs.Views.{view_of}
 
 -- The prefix of the page's ids, the reader with its rest, what is built, and whether the machine goes on.
@@ -32,8 +32,8 @@ pub record HasRun (bytes : List ℕ) (machine : MachineState) : Type 0 where
   pub goes_on : machine.stop ≡ GoesOn
 
 -- How many bytes were fed.
-abbrev pub fed : MachineState → ℕ
-fed machine = machine.reader.place + length machine.reader.rest
+abbrev pub bytes_fed : MachineState → ℕ
+bytes_fed machine = machine.reader.place + length machine.reader.rest
 
 -- No call answered a fault of the bytes.
 abbrev pub IsSound : Stop → Type 0
@@ -88,13 +88,13 @@ IsMet NoMemory met = met ≡ Some OutOfMemory
 pub record Sees (machine : MachineState) (bytes : List ℕ) (view : Seen) : Type 0 where
   pub built : PageState
   pub run : Runs machine.prefix at_first bytes built
-  pub is : seen view.parts ≡ view_of machine.prefix built.dom.forest
+  pub is : view_of_parts view.parts ≡ view_of machine.prefix built.dom.forest
 
 -- The view is that of the whole document.
 pub record SeesWhole (machine : MachineState) (bytes : List ℕ) (view : Seen) : Type 0 where
   pub built : PageState
   pub run : RunsWhole machine.prefix at_first bytes built
-  pub is : seen view.parts ≡ view_of machine.prefix built.dom.forest
+  pub is : view_of_parts view.parts ≡ view_of machine.prefix built.dom.forest
 
 -- Why a machine that goes on does not finish: the bytes end too early.
 abbrev pub FinishRefusal : MachineState → List ℕ → MachineFault → Type 0

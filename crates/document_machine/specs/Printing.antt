@@ -11,7 +11,7 @@ use Rattle.html_names.specs.declared.comments.CommentKind.{CommentKind}
 use Rattle.html_names.specs.declared.comments.CommentKind.TheVariants as said
 use Rattle.dom_forest.specs.Printing.{is_void}
 use Rattle.dom_forest.specs.Forest.{Forest, empty, tree, count}
-use Rattle.dom_forest.specs.Edits.{DomState, with_last, renumbered}
+use Rattle.dom_forest.specs.Edits.{DomState, with_last, numbered_from}
 use Rattle.dom_forest.specs.declared.node.Mark.{Mark}
 use Rattle.dom_forest.specs.declared.node.Mark.TheVariants.{Complete, Pending, Client, End, Space}
 use Rattle.dom_forest.specs.declared.node.NodeId.{NodeId}
@@ -61,7 +61,7 @@ MayPrint (tree i (Comment mark) kids later) after_text room = HasNoNode kids × 
 -- The document with more nodes at the end of an element, or at the end for None. They get new ids in document order.
 abbrev pub with_nodes : Option NodeId → Forest → DomState → DomState
 with_nodes parent more dom = record {
-  forest = with_last parent (renumbered dom.next more) dom.forest;
+  forest = with_last parent (numbered_from dom.next more) dom.forest;
   next = dom.next + count more;
 }
 

@@ -3,7 +3,7 @@ use Rattle.std.specs.Prelude.{ℕ, List, [], ◌∷◌, Option, Some, None}
 use Rattle.fizz_text.specs.declared.attribute.Attr.{Attr}
 use Rattle.html_names.specs.declared.comments.CommentKind.{CommentKind}
 use Rattle.html_names.specs.declared.comments.CommentKind.TheVariants as said
-use Rattle.dom_forest.specs.Edits.{DomState, nothing, appended}
+use Rattle.dom_forest.specs.Edits.{DomState, nothing, with_appended}
 use Rattle.dom_forest.specs.declared.node.Mark.{Mark}
 use Rattle.dom_forest.specs.declared.node.Mark.TheVariants.{Complete, Pending, Client, End, Space}
 use Rattle.dom_forest.specs.declared.node.NewNode.{NewNode}
@@ -48,7 +48,7 @@ mark_of said.Space = Space
 
 -- with a node at the end of the innermost open element
 abbrev pub with_node : NewNode → PageState → PageState
-with_node node b = record b { dom = appended (innermost b.opened) node b.dom }
+with_node node b = record b { dom = with_appended (innermost b.opened) node b.dom }
 
 -- with an element that is open from now on
 abbrev pub with_open : List ℕ → List Attr → PageState → PageState
@@ -56,7 +56,7 @@ with_open name attributes b =
     record (with_node (Element name attributes) b) { opened = record { id = record { 0 = b.dom.next }; name = name } ∷ b.opened }
 
 -- what an instruction makes of a document
-abbrev pub acted : List ℕ → List ℕ → Instruction → DomState → Edited
-acted prefix opened (instruction.Complete boundary segment) dom = complete_boundary prefix opened boundary segment dom
-acted prefix opened (instruction.Segment segment) dom = fill_placeholder prefix opened segment dom
-acted prefix opened (instruction.ClientRender boundary digest) dom = client_render prefix boundary digest dom
+abbrev pub edit_of : List ℕ → List ℕ → Instruction → DomState → Edited
+edit_of prefix opened (instruction.Complete boundary segment) dom = complete_boundary prefix opened boundary segment dom
+edit_of prefix opened (instruction.Segment segment) dom = fill_placeholder prefix opened segment dom
+edit_of prefix opened (instruction.ClientRender boundary digest) dom = client_render prefix boundary digest dom

@@ -31,8 +31,8 @@ number_of of_kind (boundary k digest items later) =
     (if of_kind k then 1 else 0) + (number_of of_kind items + number_of of_kind later)
 
 -- A count stays at the greatest number of 64 bits.
-abbrev pub counted : (BoundaryStatus → Bool) → View → ℕ
-counted of_kind view = min (number_of of_kind view) (2 ^ 64 - 1)
+abbrev pub bounded_count : (BoundaryStatus → Bool) → View → ℕ
+bounded_count of_kind view = min (number_of of_kind view) (2 ^ 64 - 1)
 
 -- The elements and texts, those of each boundary in its place.
 abbrev pub nodes_of : View → List DocNode
@@ -46,9 +46,9 @@ abbrev pub settled_of : View → Option (List DocNode)
 settled_of view = if number_of is_pending view == 0 then Some (nodes_of view) else None
 
 abbrev pub counts_of : View → Counts
-counts_of view = record { boundaries = counted any_kind view; failed = counted is_failed view; pending = counted is_pending view }
+counts_of view = record { boundaries = bounded_count any_kind view; failed = bounded_count is_failed view; pending = bounded_count is_pending view }
 
 -- Why there is no settled document. Want of memory may always come.
 abbrev pub IsSettledCause : View → SettledRefused → Type 0
-IsSettledCause view (StillPending count) = (number_of is_pending view ≢ 0) × (count ≡ counted is_pending view)
+IsSettledCause view (StillPending count) = (number_of is_pending view ≢ 0) × (count ≡ bounded_count is_pending view)
 IsSettledCause view OutOfMemory = Unit {0}

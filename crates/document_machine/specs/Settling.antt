@@ -10,8 +10,8 @@ use Rattle.document_machine.specs.declared.view.ViewPart.TheVariants.{Element, T
 use Rattle.document_machine.specs.Settled.{any_kind, is_failed, is_pending}
 
 -- a number more, where the greatest number of 64 bits stays
-abbrev pub raised : ℕ → ℕ → ℕ
-raised number count = min (count + number) (2 ^ 64 - 1)
+abbrev pub bounded_sum : ℕ → ℕ → ℕ
+bounded_sum number count = min (count + number) (2 ^ 64 - 1)
 
 -- no count is greater than the greatest number of 64 bits
 abbrev pub IsCounted : Counts → Type 0
@@ -29,16 +29,16 @@ number_in of_kind (EndOfBoundary ∷ parts) = number_in of_kind parts
 -- the counts with the boundaries of parts
 abbrev pub counts_with : List ViewPart → Counts → Counts
 counts_with parts c = record {
-  boundaries = raised (number_in any_kind parts) c.boundaries;
-  failed = raised (number_in is_failed parts) c.failed;
-  pending = raised (number_in is_pending parts) c.pending;
+  boundaries = bounded_sum (number_in any_kind parts) c.boundaries;
+  failed = bounded_sum (number_in is_failed parts) c.failed;
+  pending = bounded_sum (number_in is_pending parts) c.pending;
 }
 
 -- the counts with one boundary
 abbrev pub counts_with_one : BoundaryStatus → Counts → Counts
-counts_with_one kind.Complete c = record c { boundaries = raised 1 c.boundaries }
-counts_with_one kind.Pending c = record c { boundaries = raised 1 c.boundaries; pending = raised 1 c.pending }
-counts_with_one kind.Client c = record c { boundaries = raised 1 c.boundaries; failed = raised 1 c.failed }
+counts_with_one kind.Complete c = record c { boundaries = bounded_sum 1 c.boundaries }
+counts_with_one kind.Pending c = record c { boundaries = bounded_sum 1 c.boundaries; pending = bounded_sum 1 c.pending }
+counts_with_one kind.Client c = record c { boundaries = bounded_sum 1 c.boundaries; failed = bounded_sum 1 c.failed }
 
 -- a part as it stands in the settled document: boundaries are left out
 abbrev pub doc_part : ViewPart → List DocPart

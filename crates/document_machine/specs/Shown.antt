@@ -1,8 +1,8 @@
 -- A view by its parts, and the parts of a view.
-use Rattle.std.specs.Prelude.{ℕ, List, [], ◌∷◌}
+use Rattle.std.specs.Prelude.{List, [], ◌∷◌}
 use Rattle.document_machine.specs.declared.view.ViewPart.{ViewPart}
 use Rattle.document_machine.specs.declared.view.ViewPart.TheVariants.{Element, Text, Boundary, EndOfElement, EndOfBoundary}
-use Rattle.document_machine.specs.Views.{View, end, text, element, boundary, Levels, ended, with_first}
+use Rattle.document_machine.specs.Views.{View, end, text, element, boundary, Levels, levels_at_end, with_first}
 
 -- What follows an end; nothing where none comes.
 abbrev pub levels_after : List View → Levels
@@ -17,12 +17,12 @@ levels_of_parts (Element name attributes ∷ parts) =
 levels_of_parts (Text t ∷ parts) = with_first (text t) (levels_of_parts parts)
 levels_of_parts (Boundary kind digest ∷ parts) =
     let inner = levels_of_parts parts in with_first (boundary kind digest inner.first) (levels_after inner.rest)
-levels_of_parts (EndOfElement ∷ parts) = ended (levels_of_parts parts)
-levels_of_parts (EndOfBoundary ∷ parts) = ended (levels_of_parts parts)
+levels_of_parts (EndOfElement ∷ parts) = levels_at_end (levels_of_parts parts)
+levels_of_parts (EndOfBoundary ∷ parts) = levels_at_end (levels_of_parts parts)
 
 -- The view whose parts these are.
-abbrev pub seen : List ViewPart → View
-seen parts = (levels_of_parts parts).first
+abbrev pub view_of_parts : List ViewPart → View
+view_of_parts parts = (levels_of_parts parts).first
 
 -- The parts of a view, before others.
 abbrev pub view_parts : View → List ViewPart → List ViewPart

@@ -15,7 +15,7 @@ use Rattle.document_machine.specs.declared.edits.EditFault.{EditFault}
 use Rattle.document_machine.specs.declared.edits.EditFault.TheVariants as edit
 use Rattle.document_machine.specs.declared.fault.MachineFault.{MachineFault}
 use Rattle.document_machine.specs.declared.fault.MachineFault.TheVariants.{Html, UnknownFunction, NoSuchId, NotBoundary, OutOfMemory}
-use Rattle.document_machine.specs.Running.{PageState, at_first, acted}
+use Rattle.document_machine.specs.Running.{PageState, at_first, edit_of}
 use Rattle.document_machine.specs.Documents.{Runs, LeavesNoRest, Steps, most_open}
 use Rattle.document_machine.specs.Faults.{Refuses, HasMachineFault}
 
@@ -47,14 +47,14 @@ IsCloseRefusal name opened from OutOfMemory = ⊥
 pub record Follows (prefix body opened : List ℕ) (dom : DomState) (known : SentFunctions) (dom' : DomState) (known' : SentFunctions) : Type 0 where
   pub instruction : Instruction
   pub said : Says prefix body known instruction
-  pub acts : acted prefix opened instruction dom ≡ Ok dom'
+  pub acts : edit_of prefix opened instruction dom ≡ Ok dom'
   pub learned : known' ≡ with_function known (function_of instruction)
 
 -- It was said, and the document lacks what it needs.
 pub record FailsToApply (prefix body opened : List ℕ) (dom : DomState) (known : SentFunctions) (fault : EditFault) : Type 0 where
   pub instruction : Instruction
   pub said : Says prefix body known instruction
-  pub acts : acted prefix opened instruction dom ≡ Err fault
+  pub acts : edit_of prefix opened instruction dom ≡ Err fault
 
 abbrev pub IsScriptRefusal : List ℕ → List ℕ → List ℕ → DomState → SentFunctions → ℕ → MachineFault → Type 0
 IsScriptRefusal prefix body opened dom known from (Html at) = (at ≡ from) × IsNoBody prefix body

@@ -18,11 +18,11 @@ pub data View : Type 0 where
   element : List ℕ → List Attr → View → View → View
   boundary : BoundaryStatus → List ℕ → View → View → View
 
-abbrev pub followed : View → View → View
-followed end after = after
-followed (text t later) after = text t (followed later after)
-followed (element name attributes items later) after = element name attributes items (followed later after)
-followed (boundary kind digest items later) after = boundary kind digest items (followed later after)
+abbrev pub joined_views : View → View → View
+joined_views end after = after
+joined_views (text t later) after = text t (joined_views later after)
+joined_views (element name attributes items later) after = element name attributes items (joined_views later after)
+joined_views (boundary kind digest items later) after = boundary kind digest items (joined_views later after)
 
 abbrev pub has_name : List ℕ → List Attr → Bool
 has_name name attributes = list_any (λ (a : Attr). bytes_eq a.name name) attributes
@@ -58,24 +58,24 @@ pub record Levels : Type 0 where
 abbrev pub with_first : (View → View) → Levels → Levels
 with_first f levels = record levels { first = f levels.first }
 
-abbrev pub ended : Levels → Levels
-ended levels = record { first = end; rest = levels.first ∷ levels.rest }
+abbrev pub levels_at_end : Levels → Levels
+levels_at_end levels = record { first = end; rest = levels.first ∷ levels.rest }
 
 -- A boundary takes what stands up to its `/$`; where none follows, it runs to the end of its siblings.
-abbrev pub opened : BoundaryStatus → List ℕ → View → List View → Levels
-opened kind digest items [] = record { first = boundary kind digest items end; rest = [] }
-opened kind digest items (after ∷ rest) = record { first = boundary kind digest items after; rest = rest }
+abbrev pub levels_at_boundary : BoundaryStatus → List ℕ → View → List View → Levels
+levels_at_boundary kind digest items [] = record { first = boundary kind digest items end; rest = [] }
+levels_at_boundary kind digest items (after ∷ rest) = record { first = boundary kind digest items after; rest = rest }
 
-abbrev pub marked : Mark → Forest → Levels → Levels
-marked Complete later levels = opened kind.Complete [] levels.first levels.rest
-marked Pending later levels = opened kind.Pending [] levels.first levels.rest
-marked Client later levels = opened kind.Client (digest_after later) levels.first levels.rest
-marked End later levels = ended levels
-marked Space later levels = levels
+abbrev pub levels_at_mark : Mark → Forest → Levels → Levels
+levels_at_mark Complete later levels = levels_at_boundary kind.Complete [] levels.first levels.rest
+levels_at_mark Pending later levels = levels_at_boundary kind.Pending [] levels.first levels.rest
+levels_at_mark Client later levels = levels_at_boundary kind.Client (digest_after later) levels.first levels.rest
+levels_at_mark End later levels = levels_at_end levels
+levels_at_mark Space later levels = levels
 
 abbrev pub joined_levels : View → List View → View
 joined_levels first [] = first
-joined_levels first (next ∷ rest) = followed first (joined_levels next rest)
+joined_levels first (next ∷ rest) = joined_views first (joined_levels next rest)
 
 -- A `/$` that nothing opened is left out.
 abbrev pub siblings_of : Levels → View
@@ -88,7 +88,7 @@ levels_of prefix at_top (tree i (Element name attributes) kids later) =
     then levels_of prefix at_top later
     else with_first (element name attributes (siblings_of (levels_of prefix false kids))) (levels_of prefix at_top later)
 levels_of prefix at_top (tree i (Text t) kids later) = with_first (text t) (levels_of prefix at_top later)
-levels_of prefix at_top (tree i (Comment mark) kids later) = marked mark later (levels_of prefix at_top later)
+levels_of prefix at_top (tree i (Comment mark) kids later) = levels_at_mark mark later (levels_of prefix at_top later)
 
 -- The view of a document: no separators, templates and hidden containers; texts are never joined.
 abbrev pub view_of : List ℕ → Forest → View

@@ -1,7 +1,7 @@
 //! A page that is being built.
 
 ghost use Rattle.std.specs.Prelude.{◌≡◌, ◌<◌, ◌∷◌, ℕ, IfErr, IfOk, List, OnOk, length, nat_lt, reverse};
-ghost use Rattle.dom_forest.specs.Edits.{DomState, appended};
+ghost use Rattle.dom_forest.specs.Edits.{DomState, with_appended};
 ghost use Rattle.dom_forest.specs.declared.node.NewNode.TheVariants.{Element};
 ghost use Rattle.fizz_instructions.specs.Bodies.{function_of};
 ghost use Rattle.fizz_instructions.specs.Reading.{Says};
@@ -168,7 +168,8 @@ fn mark_of(which: CommentKind) -> Mark
 /// Adds a node at the end of the innermost open element.
 fn add(dom: &mut Dom, opened: &[OpenElement], node: NewNode) -> Result<(), MachineFault>
     requires { IsOpenDocument (ids_of (reverse opened.now)) dom.old }
-    ensures ok { OnOk result (dom.new ≡ appended (innermost (reverse opened.now)) node dom.old) }
+    ensures ok { OnOk result
+        (dom.new ≡ with_appended (innermost (reverse opened.now)) node dom.old) }
     ensures refused { IfErr result (λ e. e ≡ Memory) }
     ensures document { OnOk result (IsOpenDocument (ids_of (reverse opened.now)) dom.new) }
 {
@@ -187,8 +188,12 @@ fn open(
 ) -> Result<(), MachineFault>
     requires { IsOpenDocument (ids_of (reverse opened.old.items)) dom.old }
     ensures room { OnOk result (length (reverse opened.old.items) < most_open) }
-    ensures dom { OnOk result (dom.new ≡ appended (innermost (reverse opened.old.items)) (Element name attributes) dom.old) }
-    ensures opened { OnOk result (reverse opened.new.items ≡ record { id = record { 0 = dom.old.next }; name = name } ∷ reverse opened.old.items) }
+    ensures dom { OnOk result
+        (dom.new
+        ≡ with_appended (innermost (reverse opened.old.items)) (Element name attributes) dom.old) }
+    ensures opened { OnOk result
+        (reverse opened.new.items
+        ≡ record { id = record { 0 = dom.old.next }; name = name } ∷ reverse opened.old.items) }
     ensures refused { IfErr result (IsOpenRefusal (reverse opened.old.items) from) }
     ensures document { OnOk result (IsOpenDocument (ids_of (reverse opened.new.items)) dom.new) }
 {
@@ -243,8 +248,11 @@ fn run(
     from: usize,
 ) -> Result<(), MachineFault>
     requires { IsOpenDocument (ids_of (reverse opened.now)) dom.old }
-    ensures ok { OnOk result (Follows prefix.now body (ids_of (reverse opened.now)) dom.old known.old dom.new known.new) }
-    ensures refused { IfErr result (IsScriptRefusal prefix.now body (ids_of (reverse opened.now)) dom.old known.old from) }
+    ensures ok { OnOk result
+        (Follows prefix.now body
+        (ids_of (reverse opened.now)) dom.old known.old dom.new known.new) }
+    ensures refused { IfErr result
+        (IsScriptRefusal prefix.now body (ids_of (reverse opened.now)) dom.old known.old from) }
     ensures document { OnOk result (IsOpenDocument (ids_of (reverse opened.now)) dom.new) }
 {
     let instruction = read(alloc, body.as_bytes(), prefix, known, from)?;
@@ -266,7 +274,8 @@ fn read(
 ) -> Result<Instruction, MachineFault>
     ensures said { IfOk result (λ i. Says prefix.now body.now known.old i) }
     ensures learned { IfOk result (λ i. known.new ≡ with_function known.old (function_of i)) }
-    ensures refused { (opened : List ℕ) (dom : DomState) → IfErr result (IsScriptRefusal prefix.now body.now opened dom known.old from) }
+    ensures refused { (opened : List ℕ) (dom : DomState) →
+        IfErr result (IsScriptRefusal prefix.now body.now opened dom known.old from) }
 {
     match read_script_body(alloc, body, prefix, known) {
         Ok(instruction) => Ok(instruction),

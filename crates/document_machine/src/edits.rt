@@ -2,7 +2,7 @@
 
 ghost use Rattle.std.specs.Prelude.{◌≡◌, ◌==◌, nat_lt, not, ℕ, IfErr, IfOk, IfSome, IsTrue, OnOk, Ok, Some, reverse};
 ghost use Rattle.std.specs.List.{list_any};
-ghost use Rattle.dom_forest.specs.Edits.{IsNumbered, DomState, inner_of, part_of, with_before, without};
+ghost use Rattle.dom_forest.specs.Edits.{IsNumbered, DomState, inner_of, part_of, with_before, without_node};
 ghost use Rattle.dom_forest.specs.Forest.{IsComment, IsElement, IsThere, content_of, first_tree, from, later_of, times};
 ghost use Rattle.dom_forest.specs.Ids.{element_with};
 ghost use Rattle.dom_forest.specs.Seen.{number as number_of};
@@ -10,7 +10,7 @@ ghost use Rattle.fizz_instructions.specs.Bodies.{id_of};
 ghost use Rattle.document_machine.specs.Edits.{IsEditCause, client_render, client_render_from, closed_with, complete_boundary, fill_placeholder, from_sibling, marker_of, reveal, unless_open, waiting, with_children_before, with_digest_unless_empty, without_range};
 ghost use Rattle.document_machine.specs.EditFailures.{IsNotFound};
 ghost use Rattle.document_machine.specs.Paths.{IsOpenDocument};
-ghost use Rattle.document_machine.specs.Running.{acted, ids_of};
+ghost use Rattle.document_machine.specs.Running.{edit_of, ids_of};
 
 use crate::building::OpenElement;
 use dom_forest::{Dom, DomNode, InsertRefused, Mark, NodeId};
@@ -47,8 +47,10 @@ pub(crate) fn act(
     instruction: &Instruction,
 ) -> Result<(), EditFault>
     requires { IsOpenDocument (ids_of (reverse opened.now)) dom.old }
-    ensures ok { OnOk result (acted prefix.now (ids_of (reverse opened.now)) instruction.now dom.old ≡ Ok dom.new) }
-    ensures refused { IfErr result (IsEditCause (acted prefix.now (ids_of (reverse opened.now)) instruction.now dom.old)) }
+    ensures ok { OnOk result
+        (edit_of prefix.now (ids_of (reverse opened.now)) instruction.now dom.old ≡ Ok dom.new) }
+    ensures refused { IfErr result
+        (IsEditCause (edit_of prefix.now (ids_of (reverse opened.now)) instruction.now dom.old)) }
     ensures document { OnOk result (IsOpenDocument (ids_of (reverse opened.now)) dom.new) }
 {
     match instruction {
@@ -72,8 +74,12 @@ fn complete(
     segment: u32,
 ) -> Result<(), EditFault>
     requires { IsNumbered dom.old }
-    ensures ok { OnOk result (complete_boundary prefix.now (ids_of (reverse opened.now)) boundary segment dom.old ≡ Ok dom.new) }
-    ensures refused { IfErr result (IsEditCause (complete_boundary prefix.now (ids_of (reverse opened.now)) boundary segment dom.old)) }
+    ensures ok { OnOk result
+        (complete_boundary prefix.now (ids_of (reverse opened.now)) boundary segment dom.old
+        ≡ Ok dom.new) }
+    ensures refused { IfErr result
+        (IsEditCause
+        (complete_boundary prefix.now (ids_of (reverse opened.now)) boundary segment dom.old)) }
 {
     let container = find_closed(alloc, dom, prefix, opened, "S:", segment)?;
     let children = take_children(dom, container)?;
@@ -86,9 +92,12 @@ fn complete(
 /// Puts what were the children of a container into the boundary of a template, in place of what stands there.
 fn show(dom: &mut Dom, template: NodeId, children: Dom) -> Result<(), EditFault>
     requires { IsNumbered dom.old }
-    ensures ok { OnOk result ((container : ℕ) (old : DomState) → children ≡ inner_of (part_of container old)
+    ensures ok { OnOk result
+        ((container : ℕ) (old : DomState) → children ≡ inner_of (part_of container old)
         → reveal container old dom.old (Some template.0) ≡ Ok dom.new) }
-    ensures refused { IfErr result (λ e. (container : ℕ) (old : DomState) → IsEditCause (reveal container old dom.old (Some template.0)) e) }
+    ensures refused { IfErr result
+        (λ e. (container : ℕ) (old : DomState) →
+        IsEditCause (reveal container old dom.old (Some template.0)) e) }
 {
     let Some(marker) = find_marker(dom, template) else {
         return Err(EditFault::NotBoundary);
@@ -112,8 +121,10 @@ fn fill(
     segment: u32,
 ) -> Result<(), EditFault>
     requires { IsNumbered dom.old }
-    ensures ok { OnOk result (fill_placeholder prefix.now (ids_of (reverse opened.now)) segment dom.old ≡ Ok dom.new) }
-    ensures refused { IfErr result (IsEditCause (fill_placeholder prefix.now (ids_of (reverse opened.now)) segment dom.old)) }
+    ensures ok { OnOk result
+        (fill_placeholder prefix.now (ids_of (reverse opened.now)) segment dom.old ≡ Ok dom.new) }
+    ensures refused { IfErr result
+        (IsEditCause (fill_placeholder prefix.now (ids_of (reverse opened.now)) segment dom.old)) }
 {
     let container = find_closed(alloc, dom, prefix, opened, "S:", segment)?;
     let placeholder = find_closed(alloc, dom, prefix, opened, "P:", segment)?;
@@ -130,9 +141,13 @@ fn move_children(dom: &mut Dom, container: NodeId, placeholder: NodeId) -> Resul
     requires numbered { IsNumbered dom.old }
     requires element { IsElement (content_of container.0 dom.old.forest) }
     requires there { IsThere placeholder.0 dom.old.forest }
-    ensures inside { IfOk result (λ moved. nat_lt 0 (times placeholder.0 (first_tree (from container.0 dom.old.forest))) ≡ not moved) }
+    ensures inside { IfOk result
+        (λ moved. nat_lt 0 (times placeholder.0 (first_tree (from container.0 dom.old.forest)))
+        ≡ not moved) }
     ensures ok { IfOk result (λ moved. IsTrue moved → dom.new
-        ≡ without placeholder.0 (with_children_before placeholder.0 container.0 dom.old (without container.0 dom.old))) }
+        ≡ without_node placeholder.0
+        (with_children_before placeholder.0 container.0 dom.old
+        (without_node container.0 dom.old))) }
 {
     let children = take_children(dom, container)?;
     if !put_before(dom, placeholder, children)? {
@@ -152,7 +167,8 @@ fn leave_to_client(
 ) -> Result<(), EditFault>
     requires { IsNumbered dom.old }
     ensures ok { OnOk result (client_render prefix.now boundary digest.now dom.old ≡ Ok dom.new) }
-    ensures refused { IfErr result (IsEditCause (client_render prefix.now boundary digest.now dom.old)) }
+    ensures refused { IfErr result
+        (IsEditCause (client_render prefix.now boundary digest.now dom.old)) }
 {
     match find_element(alloc, dom, prefix, "B:", boundary)? {
         Some(template) => give_up(alloc, dom, template, digest),
@@ -163,8 +179,10 @@ fn leave_to_client(
 /// Leaves the boundary of a template to the client.
 fn give_up(alloc: Global, dom: &mut Dom, template: NodeId, digest: &Text) -> Result<(), EditFault>
     requires { IsElement (content_of template.0 dom.old.forest) }
-    ensures ok { OnOk result (client_render_from digest.now dom.old (Some template.0) ≡ Ok dom.new) }
-    ensures refused { IfErr result (IsEditCause (client_render_from digest.now dom.old (Some template.0))) }
+    ensures ok { OnOk result
+        (client_render_from digest.now dom.old (Some template.0) ≡ Ok dom.new) }
+    ensures refused { IfErr result
+        (IsEditCause (client_render_from digest.now dom.old (Some template.0))) }
 {
     let Some(marker) = find_marker(dom, template) else {
         return Err(EditFault::NotBoundary);
@@ -200,7 +218,9 @@ fn find_closed(
     number: u32,
 ) -> Result<NodeId, EditFault>
     requires { IsNumbered dom.now }
-    ensures found { IfOk result (λ node. closed_with (ids_of (reverse opened.now)) (id_of prefix.now mark.now number) dom.now.forest ≡ Some node.0) }
+    ensures found { IfOk result
+        (λ node. closed_with (ids_of (reverse opened.now))
+        (id_of prefix.now mark.now number) dom.now.forest ≡ Some node.0) }
     ensures element { IfOk result (λ node. IsElement (content_of node.0 dom.now.forest)) }
     ensures refused { IfErr result (IsNotFound (id_of prefix.now mark.now number)
         (closed_with (ids_of (reverse opened.now)) (id_of prefix.now mark.now number) dom.now.forest)) }
@@ -221,8 +241,10 @@ fn find_element(
     number: u32,
 ) -> Result<Option<NodeId>, OutOfMemory>
     requires { IsNumbered dom.now }
-    ensures found { IfOk result (λ node. number_of node ≡ element_with (id_of prefix.now mark.now number) dom.now.forest) }
-    ensures element { IfOk result (λ node. IfSome node (λ n. IsElement (content_of n.0 dom.now.forest))) }
+    ensures found { IfOk result
+        (λ node. number_of node ≡ element_with (id_of prefix.now mark.now number) dom.now.forest) }
+    ensures element { IfOk result
+        (λ node. IfSome node (λ n. IsElement (content_of n.0 dom.now.forest))) }
 {
     let id = id_text(alloc, prefix, mark, number)?;
     Ok(dom.find_id(id.as_bytes()))
@@ -269,7 +291,7 @@ fn is_open(opened: &[OpenElement], node: NodeId) -> bool
 /// Takes an element out of the document, and gives its children.
 fn take_children(dom: &mut Dom, element: NodeId) -> Result<Dom, OutOfMemory>
     requires { IsElement (content_of element.0 dom.old.forest) }
-    ensures rest { OnOk result (dom.new ≡ without element.0 dom.old) }
+    ensures rest { OnOk result (dom.new ≡ without_node element.0 dom.old) }
     ensures children { IfOk result (λ children. children ≡ inner_of (part_of element.0 dom.old)) }
 {
     let Some(part) = dom.remove(element)? else {

@@ -29,7 +29,8 @@ fn is_container(prefix: &[u8], name: &[u8], attributes: &[Attr]) -> bool
 }
 
 fn is_hidden_division(name: &[u8], attributes: &[Attr]) -> bool
-    ensures { result ≡ (bytes_eq name.now (codes "div") && has_name (codes "hidden") attributes.now) }
+    ensures { result
+        ≡ (bytes_eq name.now (codes "div") && has_name (codes "hidden") attributes.now) }
 {
     name == b"div".as_slice() && has_name(b"hidden", attributes)
 }

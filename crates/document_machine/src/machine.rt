@@ -5,10 +5,10 @@ ghost use Rattle.html_read.specs.declared.token.Token.{Token};
 ghost use Rattle.document_machine.specs.declared.fault.MachineFault.TheVariants.{OutOfMemory as Memory};
 ghost use Rattle.document_machine.specs.declared.stop.Stop.TheVariants.{NoMemory};
 ghost use Rattle.document_machine.specs.Documents.{Steps};
-ghost use Rattle.document_machine.specs.MachineState.{AnswersAgain, FeedRefusal, FinishRefusal, HasRun, IsSound, Sees, SeesWhole, fed, nothing_run};
+ghost use Rattle.document_machine.specs.MachineState.{AnswersAgain, FeedRefusal, FinishRefusal, HasRun, IsSound, Sees, SeesWhole, bytes_fed, nothing_run};
 ghost use Rattle.document_machine.specs.Paths.{IsOpenDocument};
 ghost use Rattle.document_machine.specs.Running.{ids_of, with_node};
-ghost use Rattle.document_machine.specs.Shown.{seen};
+ghost use Rattle.document_machine.specs.Shown.{view_of_parts};
 ghost use Rattle.document_machine.specs.Views.{view_of};
 ghost use Rattle.dom_forest.specs.declared.node.NewNode.TheVariants.{Text as TextNode};
 ghost use Rattle.document_machine.specs.Taking.{IsEndCause, IsPieceCause, IsTakingCause, IsTextNow, RunsToEnd, Went};
@@ -72,12 +72,13 @@ impl Machine {
     /// Refused with a fault exactly where the bytes so far have one; from then on each call answers the same. After
     /// want of memory each call wants memory.
     pub fn feed(&mut self, piece: &[u8]) -> Result<(), MachineFault>
-        requires { fed self.old + length piece.now < 2 ^ 63 }
-        ensures taken { OnOk result ((bytes : List ℕ) → HasRun bytes self.old → HasRun (bytes ++ piece.now) self.new) }
+        requires { bytes_fed self.old + length piece.now < 2 ^ 63 }
+        ensures taken { OnOk result
+            ((bytes : List ℕ) → HasRun bytes self.old → HasRun (bytes ++ piece.now) self.new) }
         ensures refused { IfErr result (FeedRefusal self.old piece.now self.new) }
         ensures again { AnswersAgain self.old.stop result }
-        ensures counted { OnOk result (fed self.new ≡ fed self.old + length piece.now) }
-        ensures bounded { fed self.new ≤ fed self.old + length piece.now }
+        ensures counted { OnOk result (bytes_fed self.new ≡ bytes_fed self.old + length piece.now) }
+        ensures bounded { bytes_fed self.new ≤ bytes_fed self.old + length piece.now }
         ensures prefix { self.new.prefix ≡ self.old.prefix }
     {
         again(self.alloc, &mut self.stop)?;
@@ -101,7 +102,8 @@ impl Machine {
     /// has not ended does not count.
     pub fn view(&self) -> Result<View, OutOfMemory>
         requires { IsSound self.now.stop }
-        ensures view { IfOk result (λ view. (bytes : List ℕ) → HasRun bytes self.now → Sees self.now bytes view) }
+        ensures view { IfOk result
+            (λ view. (bytes : List ℕ) → HasRun bytes self.now → Sees self.now bytes view) }
         ensures again { self.now.stop ≡ NoMemory → IsErr result }
     {
         if let Stop::NoMemory = self.stop {
@@ -115,8 +117,10 @@ impl Machine {
 
     /// Ends the page, and gives what is seen of its document.
     pub fn finish(self) -> Result<View, MachineFault>
-        ensures whole { IfOk result (λ view. (bytes : List ℕ) → HasRun bytes self → SeesWhole self bytes view) }
-        ensures refused { IfErr result (λ fault. (bytes : List ℕ) → HasRun bytes self → FinishRefusal self bytes fault) }
+        ensures whole { IfOk result
+            (λ view. (bytes : List ℕ) → HasRun bytes self → SeesWhole self bytes view) }
+        ensures refused { IfErr result
+            (λ fault. (bytes : List ℕ) → HasRun bytes self → FinishRefusal self bytes fault) }
         ensures again { AnswersAgain self.stop result }
     {
         let Machine {
@@ -153,7 +157,9 @@ fn text_so_far(reader: &Reader) -> Result<Option<Text>, OutOfMemory>
 /// The view of a page with one text more.
 fn view_with(alloc: Global, prefix: &Text, page: &Page, text: Text) -> Result<View, OutOfMemory>
     requires { IsOpenDocument (ids_of page.now.opened) page.now.dom }
-    ensures { IfOk result (λ view. seen view.parts ≡ view_of prefix.now (with_node (TextNode text) page.now).dom.forest) }
+    ensures { IfOk result
+        (λ view. view_of_parts view.parts
+        ≡ view_of prefix.now (with_node (TextNode text) page.now).dom.forest) }
 {
     let mut dom = page.dom().copy()?;
     dom.append(page.innermost(), NewNode::Text(text))?;
@@ -170,10 +176,14 @@ fn run_piece(
 ) -> Result<(), MachineFault>
     requires room { reader.old.place + (length reader.old.rest + length piece.now) < 2 ^ 63 }
     requires document { IsOpenDocument (ids_of page.old.opened) page.old.dom }
-    ensures taken { OnOk result ((bytes : List ℕ) → Went prefix.now bytes reader.old page.old → Went prefix.now (bytes ++ piece.now) reader.new page.new) }
+    ensures taken { OnOk result
+        ((bytes : List ℕ) → Went prefix.now bytes reader.old page.old →
+        Went prefix.now (bytes ++ piece.now) reader.new page.new) }
     ensures refused { IfErr result (IsPieceCause prefix.now reader.old page.old piece.now) }
     ensures document { OnOk result (IsOpenDocument (ids_of page.new.opened) page.new.dom) }
-    ensures counted { OnOk result (reader.new.place + length reader.new.rest ≡ reader.old.place + length reader.old.rest + length piece.now) }
+    ensures counted { OnOk result
+        (reader.new.place + length reader.new.rest
+        ≡ reader.old.place + length reader.old.rest + length piece.now) }
     ensures bounded { reader.new.place + length reader.new.rest ≤ reader.old.place + length reader.old.rest + length piece.now }
 {
     match reader.feed(piece) {
@@ -212,8 +222,12 @@ fn finish_page(
     page: &mut Page,
 ) -> Result<(), MachineFault>
     requires { IsOpenDocument (ids_of page.old.opened) page.old.dom }
-    ensures ended { OnOk result ((bytes : List ℕ) → Went prefix.now bytes reader page.old → RunsToEnd prefix.now bytes page.new) }
-    ensures refused { IfErr result (λ fault. (bytes : List ℕ) → Went prefix.now bytes reader page.old → IsEndCause prefix.now bytes fault) }
+    ensures ended { OnOk result
+        ((bytes : List ℕ) → Went prefix.now bytes reader page.old →
+        RunsToEnd prefix.now bytes page.new) }
+    ensures refused { IfErr result
+        (λ fault. (bytes : List ℕ) → Went prefix.now bytes reader page.old →
+        IsEndCause prefix.now bytes fault) }
 {
     match reader.finish() {
         Ok(Some(token)) => page.take(alloc, prefix, token),

@@ -17,10 +17,14 @@ pub fn laws_of_runs()
         Runs prefix start (a ++ b) end → RunsSomewhere prefix start a }
     ensures numbered { (prefix : List ℕ) (start end : PageState) (bytes : List ℕ) →
         Runs prefix start bytes end → IsNumbered start.dom → IsNumbered end.dom }
-    ensures more_known { (prefix : List ℕ) (start end : PageState) (bytes : List ℕ) (run : Runs prefix start bytes end)
-        (known : SentFunctions) → KnowsMore start.known known → RunsKnowing prefix start bytes end run known }
-    ensures begun { (prefix : List ℕ) (start middle : PageState) (a rest : List ℕ) (run : Runs prefix start a middle) →
-        LeavesNoRest run → IsBegun rest → begins_tag rest ≡ true → Runs prefix start (a ++ rest) middle }
+    ensures more_known { (prefix : List ℕ) (start end : PageState) (bytes : List ℕ)
+        (run : Runs prefix start bytes end)
+        (known : SentFunctions) → KnowsMore start.known known →
+        RunsKnowing prefix start bytes end run known }
+    ensures begun { (prefix : List ℕ) (start middle : PageState) (a rest : List ℕ)
+        (run : Runs prefix start a middle) →
+        LeavesNoRest run → IsBegun rest → begins_tag rest ≡ true →
+        Runs prefix start (a ++ rest) middle }
 {
     laws_of_tokens();
     laws_of_rests();

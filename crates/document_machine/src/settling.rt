@@ -4,7 +4,7 @@ ghost use Rattle.std.specs.Prelude.{◌≡◌, ◌++◌, [], IfOk, OnOk};
 ghost use Rattle.dom_forest.specs.Documents.{nodes_in};
 ghost use Rattle.document_machine.specs.Settled.{counts_of, nodes_of};
 ghost use Rattle.document_machine.specs.Settling.{counts_with, counts_with_one, doc_part, doc_parts};
-ghost use Rattle.document_machine.specs.Shown.{seen, view_parts};
+ghost use Rattle.document_machine.specs.Shown.{view_of_parts, view_parts};
 
 use crate::status::BoundaryStatus;
 use crate::view::{Counts, ViewPart};
@@ -15,8 +15,8 @@ use std::alloc::Global;
 
 /// The boundaries of a view by its parts, nested ones included.
 pub(crate) fn counts_of(parts: &[ViewPart]) -> Counts
-    requires { parts.now ≡ view_parts (seen parts.now) [] }
-    ensures { result ≡ counts_of (seen parts.now) }
+    requires { parts.now ≡ view_parts (view_of_parts parts.now) [] }
+    ensures { result ≡ counts_of (view_of_parts parts.now) }
 {
     let mut counts = Counts {
         boundaries: 0,
@@ -51,8 +51,8 @@ fn add_boundary(counts: &mut Counts, kind: BoundaryStatus)
 
 /// The elements and texts of a view by its parts, those of each boundary in its place.
 pub(crate) fn doc_of(alloc: Global, parts: &[ViewPart]) -> Result<Doc, OutOfMemory>
-    requires { parts.now ≡ view_parts (seen parts.now) [] }
-    ensures { IfOk result (λ doc. nodes_in doc.parts ≡ nodes_of (seen parts.now)) }
+    requires { parts.now ≡ view_parts (view_of_parts parts.now) [] }
+    ensures { IfOk result (λ doc. nodes_in doc.parts ≡ nodes_of (view_of_parts parts.now)) }
 {
     let parts = kept_parts(alloc, parts)?;
     Ok(Doc { parts })

@@ -4,7 +4,7 @@ ghost use Rattle.std.specs.Prelude.{◌≡◌, [], IfErr, IfOk, Some};
 ghost use Rattle.dom_forest.specs.Documents.{nodes_in};
 ghost use Rattle.document_machine.specs.declared.view.SettledRefused.TheVariants.{OutOfMemory as Memory};
 ghost use Rattle.document_machine.specs.Settled.{IsSettledCause, counts_of, settled_of};
-ghost use Rattle.document_machine.specs.Shown.{seen, view_parts};
+ghost use Rattle.document_machine.specs.Shown.{view_of_parts, view_parts};
 
 use crate::settling::{counts_of, doc_of};
 use crate::status::BoundaryStatus;
@@ -18,14 +18,15 @@ use std::alloc::{AllocError, Global};
 #[derive(Debug, Drop)]
 pub struct View {
     pub parts: Items<ViewPart>,
-    ghost whole: { parts ≡ view_parts (seen parts) [] },
+    ghost whole: { parts ≡ view_parts (view_of_parts parts) [] },
 }
 
 impl View {
     /// The elements and texts of the view, those of each boundary in its place; refused where a boundary is pending.
     pub fn settled(&self, alloc: Global) -> Result<Doc, SettledRefused>
-        ensures settled { IfOk result (λ doc. settled_of (seen self.now.parts) ≡ Some (nodes_in doc.parts)) }
-        ensures refused { IfErr result (IsSettledCause (seen self.now.parts)) }
+        ensures settled { IfOk result
+            (λ doc. settled_of (view_of_parts self.now.parts) ≡ Some (nodes_in doc.parts)) }
+        ensures refused { IfErr result (IsSettledCause (view_of_parts self.now.parts)) }
     {
         let pending = self.counts().pending;
         if pending != 0 {
@@ -36,7 +37,7 @@ impl View {
 
     /// How many boundaries there are.
     pub fn counts(&self) -> Counts
-        ensures { result ≡ counts_of (seen self.now.parts) }
+        ensures { result ≡ counts_of (view_of_parts self.now.parts) }
     {
         counts_of(self.parts.as_slice())
     }

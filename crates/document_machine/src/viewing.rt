@@ -6,8 +6,8 @@ ghost use Rattle.dom_forest.specs.Forest.{Forest, kids_of, later_of};
 ghost use Rattle.document_machine.specs.declared.view.ViewPart.TheVariants as part;
 ghost use Rattle.document_machine.specs.declared.viewing.Frame.{Frame};
 ghost use Rattle.document_machine.specs.declared.viewing.Frame.TheVariants.{Element, Boundary};
-ghost use Rattle.document_machine.specs.Shown.{seen};
-ghost use Rattle.document_machine.specs.Views.{Levels, digest_after, ended, marked, opened, view_of};
+ghost use Rattle.document_machine.specs.Shown.{view_of_parts};
+ghost use Rattle.document_machine.specs.Views.{Levels, digest_after, levels_at_end, levels_at_mark, levels_at_boundary, view_of};
 ghost use Rattle.document_machine.specs.Viewing.{all_parts, all_parts_from, frame_turns, frames_turns, nodes_from, no_levels, turns, walk_inside, with_frame};
 
 use crate::left_out::{digest_in, is_left_out, is_template};
@@ -45,7 +45,7 @@ struct Walk {
 /// out, as are templates, the space comments, and at the top the hidden containers of segments. What is begun is kept
 /// in a list, so a deep document takes memory and no stack.
 pub(crate) fn view_of(alloc: Global, dom: &Dom, prefix: &Text) -> Result<View, OutOfMemory>
-    ensures { IfOk result (λ view. seen view.parts ≡ view_of prefix.now dom.now.forest) }
+    ensures { IfOk result (λ view. view_of_parts view.parts ≡ view_of prefix.now dom.now.forest) }
 {
     let mut walk = Walk {
         parts: Items::new(alloc),
@@ -80,7 +80,8 @@ fn pass(
 ) -> Result<Option<NodeId>, OutOfMemory>
     ensures view { IfOk result (λ next. all_parts_from prefix.now dom.now.forest walk.new next
         ≡ all_parts_from prefix.now dom.now.forest walk.old (Some node)) }
-    ensures less { IfOk result (λ next. turns dom.now.forest walk.new next < turns dom.now.forest walk.old (Some node)) }
+    ensures less { IfOk result
+        (λ next. turns dom.now.forest walk.new next < turns dom.now.forest walk.old (Some node)) }
 {
     let Some(content) = dom.look(node) else {
         return Ok(None);
@@ -129,7 +130,8 @@ fn open_element(
     later: Option<NodeId>,
 ) -> Result<(), OutOfMemory>
     ensures { OnOk result (walk.new
-        ≡ walk_inside (Element walk.old.at_top later) (part.Element name.now attributes.now) false walk.old) }
+        ≡ walk_inside (Element walk.old.at_top later)
+        (part.Element name.now attributes.now) false walk.old) }
 {
     let name = name.copy(alloc)?;
     let attributes = copies(alloc, attributes)?;
@@ -160,8 +162,10 @@ fn pass_mark(
     mark: Mark,
     later: Option<NodeId>,
 ) -> Result<(), OutOfMemory>
-    ensures view { OnOk result ((prefix : List ℕ) (levels : Levels) → all_parts prefix dom.now.forest walk.new levels
-        ≡ all_parts prefix dom.now.forest walk.old (marked mark (nodes_from later dom.now.forest) levels)) }
+    ensures view { OnOk result
+        ((prefix : List ℕ) (levels : Levels) → all_parts prefix dom.now.forest walk.new levels
+        ≡ all_parts prefix dom.now.forest walk.old
+        (levels_at_mark mark (nodes_from later dom.now.forest) levels)) }
     ensures top { OnOk result (walk.new.at_top ≡ walk.old.at_top) }
     ensures less { OnOk result (frames_turns dom.now.forest walk.new.frames
         ≤ frames_turns dom.now.forest walk.old.frames + 2) }
@@ -181,7 +185,8 @@ fn pass_mark(
 fn open_boundary(walk: &mut Walk, kind: BoundaryStatus, digest: Text) -> Result<(), OutOfMemory>
     ensures view { OnOk result ((prefix : List ℕ) (forest : Forest) (levels : Levels) →
         all_parts prefix forest walk.new levels
-        ≡ all_parts prefix forest walk.old (opened kind digest levels.first levels.rest)) }
+        ≡ all_parts prefix forest walk.old
+        (levels_at_boundary kind digest levels.first levels.rest)) }
     ensures top { OnOk result (walk.new.at_top ≡ walk.old.at_top) }
     ensures less { OnOk result ((forest : Forest) →
         frames_turns forest walk.new.frames ≤ frames_turns forest walk.old.frames + 2) }
@@ -209,7 +214,8 @@ fn digest_after(alloc: Global, dom: &Dom, place: Option<NodeId>) -> Result<Text,
 /// Ends the innermost frame if it is a boundary, and else does nothing.
 fn end_boundary(walk: &mut Walk) -> Result<(), OutOfMemory>
     ensures view { OnOk result ((prefix : List ℕ) (forest : Forest) (levels : Levels) →
-        all_parts prefix forest walk.new levels ≡ all_parts prefix forest walk.old (ended levels)) }
+        all_parts prefix forest walk.new levels
+        ≡ all_parts prefix forest walk.old (levels_at_end levels)) }
     ensures top { OnOk result (walk.new.at_top ≡ walk.old.at_top) }
     ensures less { OnOk result ((forest : Forest) →
         frames_turns forest walk.new.frames ≤ frames_turns forest walk.old.frames) }
@@ -226,7 +232,8 @@ fn end_boundary(walk: &mut Walk) -> Result<(), OutOfMemory>
 
 /// Closes a frame where its siblings end, and says which node is next.
 fn close(walk: &mut Walk, frame: Frame) -> Result<Option<NodeId>, OutOfMemory>
-    ensures view { IfOk result (λ next. (prefix : List ℕ) (forest : Forest) → all_parts_from prefix forest walk.new next
+    ensures view { IfOk result
+        (λ next. (prefix : List ℕ) (forest : Forest) → all_parts_from prefix forest walk.new next
         ≡ all_parts prefix forest (with_frame frame walk.old) no_levels) }
     ensures less { IfOk result (λ next. (forest : Forest) →
         turns forest walk.new next < frames_turns forest walk.old.frames + frame_turns forest frame) }

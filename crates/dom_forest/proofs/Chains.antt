@@ -6,8 +6,8 @@ use Rattle.dom_forest.specs.declared.node.NewNode.{NewNode}
 use Rattle.dom_forest.specs.declared.entry.Entry.{Entry}
 use Rattle.dom_forest.specs.declared.chain.Slot.{Slot}
 use Rattle.dom_forest.specs.declared.chain.Chain.{Chain}
-use Rattle.dom_forest.specs.Chain.{IsChain, IsChainOf, IsSlotOf, Run, end_set, entry_in, entry_times, head_id, last_id, listed, listed_from, lifted, mapped, nexted, previous_at, previous_in, previoused, rest_from, slot_at, slot_for, to_next, to_node, to_previous, up_to}
-use Rattle.dom_forest.specs.Flat.{shifted}
+use Rattle.dom_forest.specs.Chain.{IsChain, IsChainOf, IsSlotOf, Run, end_set, entry_in, entry_times, head_id, last_id, first_entries, first_entries_at, slot_above, slot_with, with_next, previous_at, previous_in, with_previous, rest_from, slot_at, slot_for, to_next, to_node, to_previous, up_to}
+use Rattle.dom_forest.specs.Flat.{shifted_entry}
 use Rattle.dom_forest.proofs.Flattening.{entry_times-append, counts_one, counts_none}
 
 abbrev Slots : Type 0
@@ -149,37 +149,37 @@ run-there f before (e ∷ es) stop id none r =
 
 -- A link to another id leaves a slot.
 last-other : (f : Slots) (next : Option ℕ) (before : Option ℕ) (e : Entry) (es : List Entry) (i : ℕ) → entry_times i (e ∷ es) ≡ 0
-    → nexted (last_id before (e ∷ es)) next f i ≡ f i
+    → with_next (last_id before (e ∷ es)) next f i ≡ f i
 last-other f next before e [] i h = cond-false (eqb i e.id) _ _ (ne_eqb i e.id (λ same. not_first i e [] h (sym same)))
 last-other f next before e (x ∷ es) i h = last-other f next (Some e.id) x es i (not_later i e (x ∷ es) h)
 
-pub last_other : (f : Slots) (next : Option ℕ) (es : List Entry) (i : ℕ) → entry_times i es ≡ 0 → nexted (last_id None es) next f i ≡ f i
+pub last_other : (f : Slots) (next : Option ℕ) (es : List Entry) (i : ℕ) → entry_times i es ≡ 0 → with_next (last_id None es) next f i ≡ f i
 last_other f next [] i h = refl
 last_other f next (e ∷ es) i h = last-other f next None e es i h
 
-pub head_other : (f : Slots) (previous : Option ℕ) (es : List Entry) (i : ℕ) → entry_times i es ≡ 0 → previoused (head_id es None) previous f i ≡ f i
+pub head_other : (f : Slots) (previous : Option ℕ) (es : List Entry) (i : ℕ) → entry_times i es ≡ 0 → with_previous (head_id es None) previous f i ≡ f i
 head_other f previous [] i h = refl
 head_other f previous (e ∷ es) i h = cond-false (eqb i e.id) _ _ (ne_eqb i e.id (λ same. not_first i e es h (sym same)))
 
 -- The last entry of a run gets another next one.
 run-stop : (f : Slots) (before : Option ℕ) (e : Entry) (es : List Entry) (stop next : Option ℕ) → ((i : ℕ) → entry_times i (e ∷ es) ≤ 1) → Run f before (e ∷ es) stop
-    → Run (nexted (last_id before (e ∷ es)) next f) before (e ∷ es) next
+    → Run (with_next (last_id before (e ∷ es)) next f) before (e ∷ es) next
 run-stop f before e [] stop next once r =
-    (cond-true (eqb e.id e.id) _ _ (eq-eqb e.id e.id refl) ∙ ap (mapped (to_next next)) r.0, tt)
+    (cond-true (eqb e.id e.id) _ _ (eq-eqb e.id e.id refl) ∙ ap (slot_with (to_next next)) r.0, tt)
 run-stop f before e (x ∷ es) stop next once r = (
   last-other f next (Some e.id) x es e.id (here_once e (x ∷ es) (once e.id)) ∙ r.0,
   run-stop f (Some e.id) x es stop next (later_once e (x ∷ es) once) r.1,
 )
 
-pub run_stop : (f : Slots) (es : List Entry) (stop next : Option ℕ) → ((i : ℕ) → entry_times i es ≤ 1) → Run f None es stop → Run (nexted (last_id None es) next f) None es next
+pub run_stop : (f : Slots) (es : List Entry) (stop next : Option ℕ) → ((i : ℕ) → entry_times i es ≤ 1) → Run f None es stop → Run (with_next (last_id None es) next f) None es next
 run_stop f [] stop next once r = tt
 run_stop f (e ∷ es) stop next once r = run-stop f None e es stop next once r
 
 -- The first entry of a run gets another previous one.
-pub run_start : (f : Slots) (before previous : Option ℕ) (es : List Entry) → ((i : ℕ) → entry_times i es ≤ 1) → Run f before es None → Run (previoused (head_id es None) previous f) previous es None
+pub run_start : (f : Slots) (before previous : Option ℕ) (es : List Entry) → ((i : ℕ) → entry_times i es ≤ 1) → Run f before es None → Run (with_previous (head_id es None) previous f) previous es None
 run_start f before previous [] once r = tt
 run_start f before previous (e ∷ es) once r = (
-  cond-true (eqb e.id e.id) _ _ (eq-eqb e.id e.id refl) ∙ ap (mapped (to_previous previous)) r.0,
+  cond-true (eqb e.id e.id) _ _ (eq-eqb e.id e.id refl) ∙ ap (slot_with (to_previous previous)) r.0,
   run-same f _ (Some e.id) es None
       (λ i h. cond-false (eqb i e.id) _ _ (ne_eqb i e.id (λ same. omega (arith, h, here_once e es (once e.id), ap (λ n. entry_times n es) same)))) r.1,
 )
@@ -192,15 +192,15 @@ pub record Linked (f g : Slots) (before after : List Entry) (next previous : Opt
 
 pub linked : (f g : Slots) (before after : List Entry) (stop start next previous : Option ℕ) → ((i : ℕ) → entry_times i (before ++ after) ≤ 1)
     → Run f None before stop → Run f start after None
-    → ((i : ℕ) → g i ≡ previoused (head_id after None) previous (nexted (last_id None before) next f) i) → Linked f g before after next previous
+    → ((i : ℕ) → g i ≡ with_previous (head_id after None) previous (with_next (last_id None before) next f) i) → Linked f g before after next previous
 linked f g before after stop start next previous once front back is =
-    let mid : Slots = nexted (last_id None before) next f in
+    let mid : Slots = with_next (last_id None before) next f in
     let parts : (i : ℕ) → entry_times i (before ++ after) ≡ entry_times i before + entry_times i after = λ i. entry_times-append i before after in
     record {
       front = run-same mid g None before next
           (λ i h. is i ∙ head_other mid previous after i (omega (arith, h, once i, parts i)))
           (run_stop f before stop next (λ i. omega (arith, once i, parts i)) front);
-      back = run-same (previoused (head_id after None) previous mid) g previous after None (λ i h. is i)
+      back = run-same (with_previous (head_id after None) previous mid) g previous after None (λ i h. is i)
           (run_start mid start previous after (λ i. omega (arith, once i, parts i))
           (run-same f mid start after None (λ i h. last_other f next before i (omega (arith, h, once i, parts i))) back));
       same = λ i h. is i ∙ head_other mid previous after i (omega (arith, h, parts i)) ∙ last_other f next before i (omega (arith, h, parts i));
@@ -228,7 +228,7 @@ last_set (e ∷ es) start previous = refl
 -- A new entry comes in.
 pub put_chain : (ss tt' : List (Option Slot)) (first last first' last' : Option ℕ) (before after : List Entry) (e : Entry)
     → IsChain ss first last (before ++ after) → e.id ≡ length ss → length tt' ≡ length ss + 1
-    → ((i : ℕ) → slot_at tt' i ≡ previoused (head_id after None) (Some e.id) (nexted (last_id None before) (Some e.id)
+    → ((i : ℕ) → slot_at tt' i ≡ with_previous (head_id after None) (Some e.id) (with_next (last_id None before) (Some e.id)
     (λ j. if j == length ss then Some (slot_for e (last_id None before) (head_id after None)) else slot_at ss j)) i)
     → first' ≡ end_set (last_id None before) (Some e.id) first → last' ≡ end_set (head_id after None) (Some e.id) last
     → IsChain tt' first' last' (before ++ e ∷ after)
@@ -266,7 +266,7 @@ take_slot_is ss first last before after e chain = (run-split (slot_at ss) None b
 
 pub take_chain : (ss tt' : List (Option Slot)) (first last first' last' : Option ℕ) (before after : List Entry) (e : Entry)
     → IsChain ss first last (before ++ e ∷ after) → length tt' ≡ length ss
-    → ((i : ℕ) → slot_at tt' i ≡ previoused (head_id after None) (last_id None before) (nexted (last_id None before) (head_id after None)
+    → ((i : ℕ) → slot_at tt' i ≡ with_previous (head_id after None) (last_id None before) (with_next (last_id None before) (head_id after None)
     (λ j. if j == e.id then None else slot_at ss j)) i)
     → first' ≡ end_set (last_id None before) (head_id after None) first → last' ≡ end_set (head_id after None) (last_id None before) last
     → IsChain tt' first' last' (before ++ after)
@@ -296,23 +296,23 @@ take_chain ss tt' first last first' last' before after e chain longer slots head
     }
 
 -- The entries of a chain are those that its links meet.
-listed-run : (f : List (Option Slot)) (n : ℕ) (before : Option ℕ) (es : List Entry) → length es ≤ n → Run (slot_at f) before es None → listed f n (head_id es None) ≡ es
-listed-run f zero before [] h r = refl
-listed-run f (suc n) before [] h r = refl
-listed-run f zero before (e ∷ es) h r = absurd (omega arith)
-listed-run f (suc n) before (e ∷ es) h r =
-    ap (listed_from e.id (listed f n)) r.0 ∙ ap (λ xs. e ∷ xs) (listed-run f n (Some e.id) es (omega arith) r.1)
+first_entries-run : (f : List (Option Slot)) (n : ℕ) (before : Option ℕ) (es : List Entry) → length es ≤ n → Run (slot_at f) before es None → first_entries f n (head_id es None) ≡ es
+first_entries-run f zero before [] h r = refl
+first_entries-run f (suc n) before [] h r = refl
+first_entries-run f zero before (e ∷ es) h r = absurd (omega arith)
+first_entries-run f (suc n) before (e ∷ es) h r =
+    ap (first_entries_at e.id (first_entries f n)) r.0 ∙ ap (λ xs. e ∷ xs) (first_entries-run f n (Some e.id) es (omega arith) r.1)
 
-pub entries_are : (ss : List (Option Slot)) (first last : Option ℕ) (entries : List Entry) → IsChain ss first last entries → listed ss (length ss) first ≡ entries
-entries_are ss first last entries chain = ap (listed ss (length ss)) chain.head ∙ listed-run ss (length ss) None entries chain.within chain.run
+pub entries_are : (ss : List (Option Slot)) (first last : Option ℕ) (entries : List Entry) → IsChain ss first last entries → first_entries ss (length ss) first ≡ entries
+entries_are ss first last entries chain = ap (first_entries ss (length ss)) chain.head ∙ first_entries-run ss (length ss) None entries chain.within chain.run
 
-previoused-same : (id previous : Option ℕ) (f g : Slots) → ((i : ℕ) → f i ≡ g i) → (i : ℕ) → previoused id previous f i ≡ previoused id previous g i
-previoused-same None previous f g same i = same i
-previoused-same (Some id) previous f g same i = ap (λ o. if i == id then mapped (to_previous previous) o else o) (same i)
+with_previous-same : (id previous : Option ℕ) (f g : Slots) → ((i : ℕ) → f i ≡ g i) → (i : ℕ) → with_previous id previous f i ≡ with_previous id previous g i
+with_previous-same None previous f g same i = same i
+with_previous-same (Some id) previous f g same i = ap (λ o. if i == id then slot_with (to_previous previous) o else o) (same i)
 
-nexted-same : (id next : Option ℕ) (f g : Slots) → ((i : ℕ) → f i ≡ g i) → (i : ℕ) → nexted id next f i ≡ nexted id next g i
-nexted-same None next f g same i = same i
-nexted-same (Some id) next f g same i = ap (λ o. if i == id then mapped (to_next next) o else o) (same i)
+with_next-same : (id next : Option ℕ) (f g : Slots) → ((i : ℕ) → f i ≡ g i) → (i : ℕ) → with_next id next f i ≡ with_next id next g i
+with_next-same None next f g same i = same i
+with_next-same (Some id) next f g same i = ap (λ o. if i == id then slot_with (to_next next) o else o) (same i)
 
 pub previous_is : (chain : Chain) (before after : List Entry) → IsChainOf chain (before ++ after)
     → previous_at chain (head_id after None) ≡ last_id None before
@@ -323,8 +323,8 @@ previous_is chain before (e ∷ after) is = ap previous_in (take_slot_is chain.s
 pub put_whole : (ss pushed nexts done : List (Option Slot)) (first last first' last' : Option ℕ) (before after : List Entry) (depth id : ℕ) (node : NewNode) (next previous : Option ℕ)
     → IsChain ss first last (before ++ after) → next ≡ head_id after None → previous ≡ last_id None before → id ≡ length ss
     → pushed ≡ ss ++ Some (record { depth = depth; node = node; previous = previous; next = next }) ∷ []
-    → ((i : ℕ) → slot_at nexts i ≡ nexted previous (Some id) (slot_at pushed) i)
-    → ((i : ℕ) → slot_at done i ≡ previoused next (Some id) (slot_at nexts) i)
+    → ((i : ℕ) → slot_at nexts i ≡ with_next previous (Some id) (slot_at pushed) i)
+    → ((i : ℕ) → slot_at done i ≡ with_previous next (Some id) (slot_at nexts) i)
     → length done ≡ length ss + 1
     → first' ≡ end_set previous (Some id) first → last' ≡ end_set next (Some id) last
     → IsChain done first' last' (before ++ record { depth = depth; id = length ss; node = node } ∷ after)
@@ -334,11 +334,11 @@ put_whole ss pushed nexts done first last first' last' before after depth id nod
     let mid : Option ℕ → Option ℕ → Slots = λ p n j. if j == length ss then new p n else slot_at ss j in
     put_chain ss done first last first' last' before after e chain refl longer
     (λ i. two i
-    ∙ previoused-same next (Some id) (slot_at nexts) (nexted previous (Some id) (mid previous next))
-    (λ j. one j ∙ nexted-same previous (Some id) (slot_at pushed) (mid previous next) (λ k. ap (λ l. slot_at l k) push ∙ slot_at-push ss (new previous next) k) j) i
-    ∙ ap (λ n. previoused n (Some id) (nexted previous (Some id) (mid previous n)) i) next_is
-    ∙ ap (λ p. previoused (head_id after None) (Some id) (nexted p (Some id) (mid p (head_id after None))) i) previous_is
-    ∙ ap (λ n. previoused (head_id after None) (Some n) (nexted (last_id None before) (Some n) (mid (last_id None before) (head_id after None))) i) id_is)
+    ∙ with_previous-same next (Some id) (slot_at nexts) (with_next previous (Some id) (mid previous next))
+    (λ j. one j ∙ with_next-same previous (Some id) (slot_at pushed) (mid previous next) (λ k. ap (λ l. slot_at l k) push ∙ slot_at-push ss (new previous next) k) j) i
+    ∙ ap (λ n. with_previous n (Some id) (with_next previous (Some id) (mid previous n)) i) next_is
+    ∙ ap (λ p. with_previous (head_id after None) (Some id) (with_next p (Some id) (mid p (head_id after None))) i) previous_is
+    ∙ ap (λ n. with_previous (head_id after None) (Some n) (with_next (last_id None before) (Some n) (mid (last_id None before) (head_id after None))) i) id_is)
     (head ∙ ap (λ p. end_set p (Some id) first) previous_is ∙ ap (λ n. end_set (last_id None before) (Some n) first) id_is)
     (end ∙ ap (λ p. end_set p (Some id) last) next_is ∙ ap (λ n. end_set (head_id after None) (Some n) last) id_is)
 
@@ -360,8 +360,8 @@ same_slot s t h = ap (slot_or s) h where
 pub take_whole : (ss without nexts done : List (Option Slot)) (first last first' last' : Option ℕ) (before after : List Entry) (e : Entry) (id : ℕ) (slot : Slot)
     → IsChain ss first last (before ++ e ∷ after) → e.id ≡ id → Some slot ≡ slot_at ss id
     → ((i : ℕ) → slot_at without i ≡ (if i == id then None else slot_at ss i))
-    → ((i : ℕ) → slot_at nexts i ≡ nexted slot.previous slot.next (slot_at without) i)
-    → ((i : ℕ) → slot_at done i ≡ previoused slot.next slot.previous (slot_at nexts) i)
+    → ((i : ℕ) → slot_at nexts i ≡ with_next slot.previous slot.next (slot_at without) i)
+    → ((i : ℕ) → slot_at done i ≡ with_previous slot.next slot.previous (slot_at nexts) i)
     → length done ≡ length ss
     → first' ≡ end_set slot.previous slot.next first → last' ≡ end_set slot.next slot.previous last
     → IsChain done first' last' (before ++ after)
@@ -372,10 +372,10 @@ take_whole ss without nexts done first last first' last' before after e id slot 
     let mid : ℕ → Slots = λ k j. if j == k then None else slot_at ss j in
     take_chain ss done first last first' last' before after e chain longer
     (λ i. two i
-    ∙ previoused-same slot.next slot.previous (slot_at nexts) (nexted slot.previous slot.next (mid id))
-    (λ j. one j ∙ nexted-same slot.previous slot.next (slot_at without) (mid id) gone j) i
-    ∙ ap (λ (s : Slot). previoused s.next s.previous (nexted s.previous s.next (mid id)) i) slot_is
-    ∙ ap (λ k. previoused n p (nexted p n (mid k)) i) (sym same))
+    ∙ with_previous-same slot.next slot.previous (slot_at nexts) (with_next slot.previous slot.next (mid id))
+    (λ j. one j ∙ with_next-same slot.previous slot.next (slot_at without) (mid id) gone j) i
+    ∙ ap (λ (s : Slot). with_previous s.next s.previous (with_next s.previous s.next (mid id)) i) slot_is
+    ∙ ap (λ k. with_previous n p (with_next p n (mid k)) i) (sym same))
     (head ∙ ap (λ (s : Slot). end_set s.previous s.next first) slot_is)
     (end ∙ ap (λ (s : Slot). end_set s.next s.previous last) slot_is)
 
@@ -471,7 +471,7 @@ not_there ss first last entries id chain none = run-there (slot_at ss) None entr
 -- A node gets another content.
 pub set_chain : (ss done : List (Option Slot)) (first last : Option ℕ) (before after : List Entry) (e : Entry) (id : ℕ) (node : NewNode)
     → IsChain ss first last (before ++ e ∷ after) → e.id ≡ id → length done ≡ length ss
-    → ((i : ℕ) → slot_at done i ≡ (if i == id then mapped (to_node node) (slot_at ss i) else slot_at ss i))
+    → ((i : ℕ) → slot_at done i ≡ (if i == id then slot_with (to_node node) (slot_at ss i) else slot_at ss i))
     → IsChain done first last (before ++ record { depth = e.depth; id = e.id; node = node } ∷ after)
 set_chain ss done first last before after e id node chain same longer slots =
     let new : Entry = record { depth = e.depth; id = e.id; node = node } in
@@ -485,7 +485,7 @@ set_chain ss done first last before after e id node chain same longer slots =
     record {
       run = run-join (slot_at done) None before (new ∷ after) None
           (run-same (slot_at ss) (slot_at done) None before (Some e.id) (λ i h. others i (apart_from i (omega (arith, h, entry_times-append i before after)))) runs.0) (
-            slots e.id ∙ cond-true (eqb e.id id) _ _ (eq-eqb e.id id same) ∙ ap (mapped (to_node node)) runs.1.0,
+            slots e.id ∙ cond-true (eqb e.id id) _ _ (eq-eqb e.id id same) ∙ ap (slot_with (to_node node)) runs.1.0,
             run-same (slot_at ss) (slot_at done) (Some e.id) after None (λ i h. others i (apart_from i (omega (arith, h, entry_times-append i before after)))) runs.1.1,
           );
       head = chain.head ∙ head-append before (e ∷ after) None ∙ sym (head-append before (new ∷ after) None);
@@ -501,40 +501,40 @@ set_chain ss done first last before after e id node chain same longer slots =
 abbrev slot_some : ℕ → NewNode → Option ℕ → Option ℕ → Option Slot
 slot_some depth node before next = Some (record { depth = depth; node = node; previous = before; next = next })
 
-slot_at-lifted : (ss : List (Option Slot)) (i : ℕ) → slot_at (map (mapped lifted) ss) i ≡ mapped lifted (slot_at ss i)
-slot_at-lifted [] i = refl
-slot_at-lifted (s ∷ ss) zero = refl
-slot_at-lifted (s ∷ ss) (suc i) = slot_at-lifted ss i
+slot_at-slot_above : (ss : List (Option Slot)) (i : ℕ) → slot_at (map (slot_with slot_above) ss) i ≡ slot_with slot_above (slot_at ss i)
+slot_at-slot_above [] i = refl
+slot_at-slot_above (s ∷ ss) zero = refl
+slot_at-slot_above (s ∷ ss) (suc i) = slot_at-slot_above ss i
 
-head-lifted : (es : List Entry) (stop : Option ℕ) → head_id (map (shifted 1 0) es) stop ≡ head_id es stop
-head-lifted [] stop = refl
-head-lifted (e ∷ es) stop = refl
+head-slot_above : (es : List Entry) (stop : Option ℕ) → head_id (map (shifted_entry 1 0) es) stop ≡ head_id es stop
+head-slot_above [] stop = refl
+head-slot_above (e ∷ es) stop = refl
 
-last-lifted : (before : Option ℕ) (es : List Entry) → last_id before (map (shifted 1 0) es) ≡ last_id before es
-last-lifted before [] = refl
-last-lifted before (e ∷ es) = last-lifted (Some e.id) es
+last-slot_above : (before : Option ℕ) (es : List Entry) → last_id before (map (shifted_entry 1 0) es) ≡ last_id before es
+last-slot_above before [] = refl
+last-slot_above before (e ∷ es) = last-slot_above (Some e.id) es
 
-times-lifted : (i : ℕ) (es : List Entry) → entry_times i (map (shifted 1 0) es) ≡ entry_times i es
-times-lifted i [] = refl
-times-lifted i (e ∷ es) = omega (arith, times-lifted i es)
+times-slot_above : (i : ℕ) (es : List Entry) → entry_times i (map (shifted_entry 1 0) es) ≡ entry_times i es
+times-slot_above i [] = refl
+times-slot_above i (e ∷ es) = omega (arith, times-slot_above i es)
 
-run-lifted : (ss done : List (Option Slot)) (before : Option ℕ) (es : List Entry) (stop : Option ℕ) → done ≡ map (mapped lifted) ss → Run (slot_at ss) before es stop
-    → Run (slot_at done) before (map (shifted 1 0) es) stop
-run-lifted ss done before [] stop is r = tt
-run-lifted ss done before (e ∷ es) stop is r = (
-  ap (λ l. slot_at l e.id) is ∙ slot_at-lifted ss e.id ∙ ap (mapped lifted) r.0
-      ∙ ap (λ n. slot_some (e.depth - 1) e.node before n) (sym (head-lifted es stop))
-      ∙ ap (λ d. slot_some d e.node before (head_id (map (shifted 1 0) es) stop)) (sym (add-zero (e.depth - 1))),
-  run-lifted ss done (Some e.id) es stop is r.1,
+run-slot_above : (ss done : List (Option Slot)) (before : Option ℕ) (es : List Entry) (stop : Option ℕ) → done ≡ map (slot_with slot_above) ss → Run (slot_at ss) before es stop
+    → Run (slot_at done) before (map (shifted_entry 1 0) es) stop
+run-slot_above ss done before [] stop is r = tt
+run-slot_above ss done before (e ∷ es) stop is r = (
+  ap (λ l. slot_at l e.id) is ∙ slot_at-slot_above ss e.id ∙ ap (slot_with slot_above) r.0
+      ∙ ap (λ n. slot_some (e.depth - 1) e.node before n) (sym (head-slot_above es stop))
+      ∙ ap (λ d. slot_some d e.node before (head_id (map (shifted_entry 1 0) es) stop)) (sym (add-zero (e.depth - 1))),
+  run-slot_above ss done (Some e.id) es stop is r.1,
 )
 
-pub raise_chain : (ss done : List (Option Slot)) (first last : Option ℕ) (es : List Entry) → IsChain ss first last es → done ≡ map (mapped lifted) ss
-    → IsChain done first last (map (shifted 1 0) es)
+pub raise_chain : (ss done : List (Option Slot)) (first last : Option ℕ) (es : List Entry) → IsChain ss first last es → done ≡ map (slot_with slot_above) ss
+    → IsChain done first last (map (shifted_entry 1 0) es)
 raise_chain ss done first last es chain is = record {
-  run = run-lifted ss done None es None is chain.run;
-  head = chain.head ∙ sym (head-lifted es None);
-  end = chain.end ∙ sym (last-lifted None es);
-  once = λ i. omega (arith, chain.once i, times-lifted i es);
-  gone = λ i h. ap (λ l. slot_at l i) is ∙ slot_at-lifted ss i ∙ ap (mapped lifted) (chain.gone i (omega (arith, h, times-lifted i es)));
-  within = omega (arith, chain.within, ap length is, length-map ss (mapped lifted), length-map es (shifted 1 0));
+  run = run-slot_above ss done None es None is chain.run;
+  head = chain.head ∙ sym (head-slot_above es None);
+  end = chain.end ∙ sym (last-slot_above None es);
+  once = λ i. omega (arith, chain.once i, times-slot_above i es);
+  gone = λ i h. ap (λ l. slot_at l i) is ∙ slot_at-slot_above ss i ∙ ap (slot_with slot_above) (chain.gone i (omega (arith, h, times-slot_above i es)));
+  within = omega (arith, chain.within, ap length is, length-map ss (slot_with slot_above), length-map es (shifted_entry 1 0));
 }

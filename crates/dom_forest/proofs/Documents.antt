@@ -4,13 +4,13 @@ use Rattle.std.proofs.lemmas.Bool.{cases_eq}
 use Rattle.std.proofs.lemmas.List.{append_assoc, append-nil, length-append}
 use Rattle.dom_forest.specs.declared.node.NewNode.{NewNode}
 use Rattle.dom_forest.specs.declared.entry.Entry.{Entry}
-use Rattle.dom_forest.specs.Forest.{Forest, empty, tree, times, count, joined}
+use Rattle.dom_forest.specs.Forest.{Forest, empty, tree, times, count, joined_forests}
 use Rattle.dom_forest.specs.declared.node.NodeId.{NodeId}
 use Rattle.std.specs.List.{prefix_len}
 use Rattle.dom_forest.specs.Runs.{below_at}
 use Rattle.dom_forest.specs.Edits.{with_last}
 use Rattle.dom_forest.specs.Flat.{flat, forest_of, IsDocument, IsSpan, IsEndOfKids}
-use Rattle.dom_forest.proofs.Flattening.{flat-append, flat-joined, length-flat, forest_of-flat, entry_times, entry_times-append, entry_times-flat, counts_one, counts_none}
+use Rattle.dom_forest.proofs.Flattening.{flat-append, flat-joined_forests, length-flat, forest_of-flat, entry_times, entry_times-append, entry_times-flat, counts_one, counts_none}
 use Rattle.dom_forest.proofs.Located.{times_of, Known, known, past_kids}
 
 -- Entries that are a forest's flat list, with each id once and below the next one, are a document of it.
@@ -89,8 +89,8 @@ appended_under entries next parent node at depth here level doc span deeper =
         span.place,
         span_kids entries here at level parent.0 (forest_of entries) span x,
       );
-      written = x.edited (λ content kids after. tree parent.0 content (joined kids leaf) after)
-          ∙ ap (λ es. span.front ++ row ∷ es) (flat-joined (e.depth + 1) x.kids leaf later ∙ flat-append (e.depth + 1) x.kids [] (flat (e.depth + 1) leaf later)
+      written = x.edited (λ content kids after. tree parent.0 content (joined_forests kids leaf) after)
+          ∙ ap (λ es. span.front ++ row ∷ es) (flat-joined_forests (e.depth + 1) x.kids leaf later ∙ flat-append (e.depth + 1) x.kids [] (flat (e.depth + 1) leaf later)
           ∙ ap (λ n. flat (e.depth + 1) x.kids [] ++ record { depth = n; id = next; node = node } ∷ later) (omega (arith, span.level)))
           ∙ sym (append_assoc span.front (row ∷ flat (e.depth + 1) x.kids []) (new ∷ later));
     }
@@ -102,7 +102,7 @@ appended_at entries next None node at depth doc end = record {
   back = [];
   whole = sym (append-nil entries);
   place = sym end.0;
-  written = flat-joined 0 (forest_of entries) (tree next node empty empty) []
+  written = flat-joined_forests 0 (forest_of entries) (tree next node empty empty) []
       ∙ flat-append 0 (forest_of entries) [] (record { depth = 0; id = next; node = node } ∷ [])
       ∙ ap (λ es. es ++ record { depth = 0; id = next; node = node } ∷ []) doc.whole
       ∙ ap (λ n. entries ++ record { depth = n; id = next; node = node } ∷ []) (sym end.1);

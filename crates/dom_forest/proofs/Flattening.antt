@@ -6,13 +6,13 @@ use Rattle.std.proofs.lemmas.List.{drop_at, take_at}
 use Rattle.dom_forest.specs.declared.node.NewNode.{NewNode}
 use Rattle.dom_forest.specs.declared.entry.Entry.{Entry}
 pub use Rattle.dom_forest.specs.Chain.{entry_times}
-use Rattle.dom_forest.specs.Forest.{Forest, empty, tree, times, count, joined}
+use Rattle.dom_forest.specs.Forest.{Forest, empty, tree, times, count, joined_forests}
 use Rattle.dom_forest.specs.Runs.{below_at}
 use Rattle.dom_forest.specs.Flat.{flat, standing, forest_of}
 
-pub joined-empty : (forest : Forest) → joined forest empty ≡ forest
-joined-empty empty = refl
-joined-empty (tree i content kids later) = ap (tree i content kids) (joined-empty later)
+pub joined_forests-empty : (forest : Forest) → joined_forests forest empty ≡ forest
+joined_forests-empty empty = refl
+joined_forests-empty (tree i content kids later) = ap (tree i content kids) (joined_forests-empty later)
 
 pub flat-append : (depth : ℕ) (forest : Forest) (more most : List Entry) → flat depth forest (more ++ most) ≡ flat depth forest more ++ most
 flat-append depth empty more most = refl
@@ -20,10 +20,10 @@ flat-append depth (tree i content kids later) more most =
     ap (λ es. record { depth = depth; id = i; node = content } ∷ es)
     (ap (flat (depth + 1) kids) (flat-append depth later more most) ∙ flat-append (depth + 1) kids (flat depth later more) most)
 
-pub flat-joined : (depth : ℕ) (forest other : Forest) (more : List Entry) → flat depth (joined forest other) more ≡ flat depth forest (flat depth other more)
-flat-joined depth empty other more = refl
-flat-joined depth (tree i content kids later) other more =
-    ap (λ es. record { depth = depth; id = i; node = content } ∷ flat (depth + 1) kids es) (flat-joined depth later other more)
+pub flat-joined_forests : (depth : ℕ) (forest other : Forest) (more : List Entry) → flat depth (joined_forests forest other) more ≡ flat depth forest (flat depth other more)
+flat-joined_forests depth empty other more = refl
+flat-joined_forests depth (tree i content kids later) other more =
+    ap (λ es. record { depth = depth; id = i; node = content } ∷ flat (depth + 1) kids es) (flat-joined_forests depth later other more)
 
 pub length-flat : (depth : ℕ) (forest : Forest) (more : List Entry) → length (flat depth forest more) ≡ count forest + length more
 length-flat depth empty more = omega arith
@@ -44,7 +44,7 @@ NoneDeeper depth entries = (deep : ℕ) → depth < deep → standing entries de
 
 -- What stands at each depth where a forest at a depth begins the entries.
 pub record Stands (depth : ℕ) (forest : Forest) (more : List Entry) : Type 0 where
-  pub at : standing (flat depth forest more) depth ≡ joined forest (standing more depth)
+  pub at : standing (flat depth forest more) depth ≡ joined_forests forest (standing more depth)
   pub above : (high : ℕ) → high < depth → standing (flat depth forest more) high ≡ standing more high
   pub below : NoneDeeper depth (flat depth forest more)
 
@@ -71,14 +71,14 @@ standing-flat depth (tree i content kids later) more none =
     let inner = standing-flat (depth + 1) kids (flat depth later more) (λ deep h. after.below deep (omega arith)) in
     let es = flat (depth + 1) kids (flat depth later more) in
     record {
-      at = first_same depth i content es ∙ ap (λ (k : Forest). tree i content k (standing es depth)) (inner.at ∙ ap (joined kids) (after.below (depth + 1) (omega arith)) ∙ joined-empty kids) ∙ ap (tree i content kids) (inner.above depth (omega arith) ∙ after.at);
+      at = first_same depth i content es ∙ ap (λ (k : Forest). tree i content k (standing es depth)) (inner.at ∙ ap (joined_forests kids) (after.below (depth + 1) (omega arith)) ∙ joined_forests-empty kids) ∙ ap (tree i content kids) (inner.above depth (omega arith) ∙ after.at);
       above = λ high h. first_above depth i content es high h ∙ inner.above high (omega arith) ∙ after.above high h;
       below = λ deep h. first_below depth i content es deep h;
     }
 
 -- The forest of a flat list is the one that was written.
 pub forest_of-flat : (forest : Forest) → forest_of (flat 0 forest []) ≡ forest
-forest_of-flat forest = (standing-flat 0 forest [] (λ deep h. refl)).at ∙ joined-empty forest
+forest_of-flat forest = (standing-flat 0 forest [] (λ deep h. refl)).at ∙ joined_forests-empty forest
 
 pub entry_times-flat : (id depth : ℕ) (forest : Forest) (more : List Entry) → entry_times id (flat depth forest more) ≡ times id forest + entry_times id more
 entry_times-flat id depth empty more = omega arith

@@ -4,9 +4,9 @@ use Rattle.std.proofs.lemmas.Bool.{cond-true, cond-false, cases_lt, eqb-true, eq
 use Rattle.dom_forest.specs.declared.node.NewNode.{NewNode}
 use Rattle.dom_forest.specs.declared.entry.Entry.{Entry}
 use Rattle.dom_forest.specs.Forest.{Forest, empty, tree, times, or_else, from, or_id, parent_under, previous_after}
-use Rattle.dom_forest.specs.Edits.{changed}
+use Rattle.dom_forest.specs.Edits.{with_change}
 use Rattle.dom_forest.specs.Flat.{flat}
-use Rattle.dom_forest.specs.Runs.{kept, parent_step, previous_step}
+use Rattle.dom_forest.specs.Runs.{id_after, parent_step, previous_step}
 use Rattle.dom_forest.proofs.Flattening.{flat-append, length-flat, EndsAbove, EndsAbove-later}
 
 abbrev Change : Type 0
@@ -15,7 +15,7 @@ Change = NewNode → Forest → Forest → Forest
 -- What is known of an id that is not there.
 pub record Absent (id : ℕ) (forest : Forest) : Type 0 where
   pub from_is : from id forest ≡ empty
-  pub same : (change : NewNode → Forest → Forest → Forest) → changed id change forest ≡ forest
+  pub same : (change : NewNode → Forest → Forest → Forest) → with_change id change forest ≡ forest
   pub parent : (above : Option ℕ) → parent_under above id forest ≡ None
   pub previous : (before : Option ℕ) → previous_after before id forest ≡ None
 
@@ -28,7 +28,7 @@ absent_tree id i content kids later false e none inner after =
     let l = after (omega arith) in
     record {
       from_is = cond-false (eqb i id) _ _ e ∙ ap (λ f. or_else f (from id later)) k.from_is ∙ l.from_is;
-      same = λ change. cond-false (eqb i id) _ _ e ∙ ap (λ f. tree i content f (changed id change later)) (k.same change) ∙ ap (tree i content kids) (l.same change);
+      same = λ change. cond-false (eqb i id) _ _ e ∙ ap (λ f. tree i content f (with_change id change later)) (k.same change) ∙ ap (tree i content kids) (l.same change);
       parent = λ above. cond-false (eqb i id) _ _ e ∙ ap (λ p. or_id p (parent_under above id later)) (k.parent (Some i)) ∙ l.parent above;
       previous = λ before. cond-false (eqb i id) _ _ e ∙ ap (λ p. or_id p (previous_after (Some i) id later)) (k.previous None) ∙ l.previous (Some i);
     }
@@ -38,13 +38,13 @@ absent id empty none = record { from_is = refl; same = λ change. refl; parent =
 absent id (tree i content kids later) none =
     absent_tree id i content kids later (i == id) refl none (absent id kids) (absent id later)
 
-pub kept-append : (step : Entry → Option ℕ → Option ℕ) (id : Option ℕ) (es fs : List Entry) → kept step id (es ++ fs) ≡ kept step (kept step id es) fs
-kept-append step id [] fs = refl
-kept-append step id (e ∷ es) fs = kept-append step (step e id) es fs
+pub id_after-append : (step : Entry → Option ℕ → Option ℕ) (id : Option ℕ) (es fs : List Entry) → id_after step id (es ++ fs) ≡ id_after step (id_after step id es) fs
+id_after-append step id [] fs = refl
+id_after-append step id (e ∷ es) fs = id_after-append step (step e id) es fs
 
 pub run_over : (step : Entry → Option ℕ → Option ℕ) (id : Option ℕ) (depth : ℕ) (forest : Forest) (more : List Entry)
-    → kept step id (flat depth forest more) ≡ kept step (kept step id (flat depth forest [])) more
-run_over step id depth forest more = ap (kept step id) (flat-append depth forest [] more) ∙ kept-append step id (flat depth forest []) more
+    → id_after step id (flat depth forest more) ≡ id_after step (id_after step id (flat depth forest [])) more
+run_over step id depth forest more = ap (id_after step id) (flat-append depth forest [] more) ∙ id_after-append step id (flat depth forest []) more
 
 pub or_id-none : (id : Option ℕ) → or_id id None ≡ id
 or_id-none None = refl
@@ -52,10 +52,10 @@ or_id-none (Some id) = refl
 
 -- A run passes over what stands deeper.
 passed_over : (step : Entry → Option ℕ → Option ℕ) (least : ℕ) → ((e : Entry) (id : Option ℕ) → least ≤ e.depth → step e id ≡ id)
-    → (id : Option ℕ) (depth : ℕ) (forest : Forest) (more : List Entry) → least ≤ depth → kept step id (flat depth forest more) ≡ kept step id more
+    → (id : Option ℕ) (depth : ℕ) (forest : Forest) (more : List Entry) → least ≤ depth → id_after step id (flat depth forest more) ≡ id_after step id more
 passed_over step least passes id depth empty more h = refl
 passed_over step least passes id depth (tree i content kids later) more h =
-    ap (λ x. kept step x (flat (depth + 1) kids (flat depth later more))) (passes (record { depth = depth; id = i; node = content }) id h)
+    ap (λ x. id_after step x (flat (depth + 1) kids (flat depth later more))) (passes (record { depth = depth; id = i; node = content }) id h)
     ∙ passed_over step least passes id (depth + 1) kids (flat depth later more) (omega arith)
     ∙ passed_over step least passes id depth later more h
 
@@ -68,7 +68,7 @@ previous_passes depth e id h =
 
 -- What a run keeps is forgotten at the entries.
 abbrev Forgets : (Entry → Option ℕ → Option ℕ) → List Entry → Type 0
-Forgets step es = (x y : Option ℕ) → kept step x es ≡ kept step y es
+Forgets step es = (x y : Option ℕ) → id_after step x es ≡ id_after step y es
 
 parent_forgets : (depth : ℕ) (e : Entry) (x y : Option ℕ) → e.depth < depth → parent_step depth e x ≡ parent_step depth e y
 parent_forgets depth e x y h = cond-true (ltb e.depth depth) _ _ (lt-ltb e.depth depth h) ∙ sym (cond-true (ltb e.depth depth) _ _ (lt-ltb e.depth depth h))
@@ -88,14 +88,14 @@ pub record Focus (id top : ℕ) (forest : Forest) (more : List Entry) (above bef
   pub back : List Entry
   pub found : from id forest ≡ tree id content kids later
   pub whole : flat top forest more ≡ front ++ flat depth (tree id content kids later) back
-  pub edited : (change : NewNode → Forest → Forest → Forest) → flat top (changed id change forest) more ≡ front ++ flat depth (change content kids later) back
+  pub edited : (change : NewNode → Forest → Forest → Forest) → flat top (with_change id change forest) more ≡ front ++ flat depth (change content kids later) back
   pub ends : EndsAbove depth back
   pub high : top ≤ depth
   pub deep : depth ≤ top + length front
-  pub parent : parent_under above id forest ≡ kept (parent_step depth) above front
-  pub previous : previous_after before id forest ≡ kept (previous_step depth) before front
-  pub parent_set : top < depth → (x y : Option ℕ) → kept (parent_step depth) x front ≡ kept (parent_step depth) y front
-  pub previous_set : top < depth → (x y : Option ℕ) → kept (previous_step depth) x front ≡ kept (previous_step depth) y front
+  pub parent : parent_under above id forest ≡ id_after (parent_step depth) above front
+  pub previous : previous_after before id forest ≡ id_after (previous_step depth) before front
+  pub parent_set : top < depth → (x y : Option ℕ) → id_after (parent_step depth) x front ≡ id_after (parent_step depth) y front
+  pub previous_set : top < depth → (x y : Option ℕ) → id_after (previous_step depth) x front ≡ id_after (previous_step depth) y front
 
 module _ (id top i : ℕ) (content : NewNode) (kids later : Forest) (more : List Entry) (above before : Option ℕ) where
   abbrev entry : Entry
@@ -135,32 +135,32 @@ module _ (id top i : ℕ) (content : NewNode) (kids later : Forest) (more : List
         back = k.back;
         found = cond-false (eqb i id) _ _ e ∙ ap (λ f. or_else f (from id later)) k.found;
         whole = ap (λ es. entry ∷ es) k.whole;
-        edited = λ change. ap (λ f. flat top f more) (cond-false (eqb i id) _ _ e ∙ ap (tree i content (changed id change kids)) (gone.same change)) ∙ ap (λ es. entry ∷ es) (k.edited change);
+        edited = λ change. ap (λ f. flat top f more) (cond-false (eqb i id) _ _ e ∙ ap (tree i content (with_change id change kids)) (gone.same change)) ∙ ap (λ es. entry ∷ es) (k.edited change);
         ends = k.ends;
         high = omega (arith, k.high);
         deep = omega (arith, k.deep);
         parent = cond-false (eqb i id) _ _ e ∙ ap (or_id (parent_under (Some i) id kids)) (gone.parent above) ∙ or_id-none (parent_under (Some i) id kids)
-            ∙ k.parent ∙ ap (λ p. kept (parent_step k.depth) p k.front) (sym (cond-true (ltb top k.depth) (Some i) above (lt-ltb top k.depth (omega (arith, k.high)))));
+            ∙ k.parent ∙ ap (λ p. id_after (parent_step k.depth) p k.front) (sym (cond-true (ltb top k.depth) (Some i) above (lt-ltb top k.depth (omega (arith, k.high)))));
         previous = cond-false (eqb i id) _ _ e ∙ ap (or_id (previous_after None id kids)) (gone.previous (Some i)) ∙ or_id-none (previous_after None id kids)
-            ∙ k.previous ∙ ap (λ p. kept (previous_step k.depth) p k.front) (sym (previous_forgets k.depth entry before (omega (arith, k.high))));
-        parent_set = λ h x y. ap (λ p. kept (parent_step k.depth) p k.front) (parent_forgets k.depth entry x y h);
-        previous_set = λ h x y. ap (λ p. kept (previous_step k.depth) p k.front) (previous_forgets k.depth entry x h ∙ sym (previous_forgets k.depth entry y h));
+            ∙ k.previous ∙ ap (λ p. id_after (previous_step k.depth) p k.front) (sym (previous_forgets k.depth entry before (omega (arith, k.high))));
+        parent_set = λ h x y. ap (λ p. id_after (parent_step k.depth) p k.front) (parent_forgets k.depth entry x y h);
+        previous_set = λ h x y. ap (λ p. id_after (previous_step k.depth) p k.front) (previous_forgets k.depth entry x h ∙ sym (previous_forgets k.depth entry y h));
       }
 
   parent_after : (depth : ℕ) (front : List Entry) → (top < depth) ⊎ (depth ≤ top) → top ≤ depth
-      → (top < depth → (x y : Option ℕ) → kept (parent_step depth) x front ≡ kept (parent_step depth) y front)
-      → kept (parent_step depth) above front ≡ kept (parent_step depth) (parent_step depth entry above) (flat (top + 1) kids front)
+      → (top < depth → (x y : Option ℕ) → id_after (parent_step depth) x front ≡ id_after (parent_step depth) y front)
+      → id_after (parent_step depth) above front ≡ id_after (parent_step depth) (parent_step depth entry above) (flat (top + 1) kids front)
   parent_after depth front (inl h) high set = set h above _ ∙ sym (run_over (parent_step depth) _ (top + 1) kids front)
   parent_after depth front (inr h) high set =
-      ap (λ p. kept (parent_step depth) p front) (sym (parent_passes depth entry above h))
+      ap (λ p. id_after (parent_step depth) p front) (sym (parent_passes depth entry above h))
       ∙ sym (passed_over (parent_step depth) depth (parent_passes depth) _ (top + 1) kids front (omega arith))
 
   previous_sibling : (depth : ℕ) (front : List Entry) → (top < depth) ⊎ (depth ≤ top) → top ≤ depth
-      → (top < depth → (x y : Option ℕ) → kept (previous_step depth) x front ≡ kept (previous_step depth) y front)
-      → kept (previous_step depth) (Some i) front ≡ kept (previous_step depth) (previous_step depth entry before) (flat (top + 1) kids front)
+      → (top < depth → (x y : Option ℕ) → id_after (previous_step depth) x front ≡ id_after (previous_step depth) y front)
+      → id_after (previous_step depth) (Some i) front ≡ id_after (previous_step depth) (previous_step depth entry before) (flat (top + 1) kids front)
   previous_sibling depth front (inl h) high set = set h (Some i) _ ∙ sym (run_over (previous_step depth) _ (top + 1) kids front)
   previous_sibling depth front (inr h) high set =
-      ap (λ p. kept (previous_step depth) p front) (sym (cond-true (eqb top depth) _ _ (eq-eqb top depth (omega arith))))
+      ap (λ p. id_after (previous_step depth) p front) (sym (cond-true (eqb top depth) _ _ (eq-eqb top depth (omega arith))))
       ∙ sym (passed_over (previous_step depth) (depth + 1) (previous_passes depth) _ (top + 1) kids front (omega arith))
 
   focus_after : (i == id) ≡ false → times id kids ≡ 0 → Focus id top later more above (Some i) → Focus id top (tree i content kids later) more above before
@@ -175,7 +175,7 @@ module _ (id top i : ℕ) (content : NewNode) (kids later : Forest) (more : List
         back = l.back;
         found = cond-false (eqb i id) _ _ e ∙ ap (λ f. or_else f (from id later)) gone.from_is ∙ l.found;
         whole = ap (λ es. entry ∷ es) (ap (flat (top + 1) kids) l.whole ∙ flat-append (top + 1) kids l.front _);
-        edited = λ change. ap (λ f. flat top f more) (cond-false (eqb i id) _ _ e ∙ ap (λ f. tree i content f (changed id change later)) (gone.same change))
+        edited = λ change. ap (λ f. flat top f more) (cond-false (eqb i id) _ _ e ∙ ap (λ f. tree i content f (with_change id change later)) (gone.same change))
             ∙ ap (λ es. entry ∷ es) (ap (flat (top + 1) kids) (l.edited change) ∙ flat-append (top + 1) kids l.front _);
         ends = l.ends;
         high = l.high;

@@ -6,16 +6,16 @@ use Rattle.dom_forest.specs.declared.node.NodeId.{NodeId}
 use Rattle.dom_forest.specs.declared.entry.Entry.{Entry}
 use Rattle.dom_forest.specs.declared.chain.Chain.{Chain}
 use Rattle.dom_forest.specs.Chain.{IsChainOf, entries_of, entry_times, head_id, rest_from}
-use Rattle.dom_forest.specs.Edits.{changed, renumbered, with_last}
-use Rattle.dom_forest.specs.Flat.{CanShift, IsDocument, flat, forest_of, renumbered_entries, shifted}
-use Rattle.dom_forest.specs.Forest.{Forest, IsThere, count, empty, first_kids, first_tree, from, joined, tree}
-use Rattle.dom_forest.specs.Spine.{IsHeld, IsSpine, IsSpineOf, noted}
+use Rattle.dom_forest.specs.Edits.{with_change, numbered_from, with_last}
+use Rattle.dom_forest.specs.Flat.{CanShift, IsDocument, flat, forest_of, renumbered_entries, shifted_entry}
+use Rattle.dom_forest.specs.Forest.{Forest, IsThere, count, empty, first_kids, first_tree, from, joined_forests, tree}
+use Rattle.dom_forest.specs.Spine.{IsHeld, IsSpine, IsSpineOf, with_last_id}
 use Rattle.dom_forest.proofs.Chains.{Split, entries_are, rest_head, split_id}
 use Rattle.dom_forest.proofs.Documents.{Appended, document_from, forest_from, given_in, inserted_document, once_in}
 use Rattle.dom_forest.proofs.Flattening.{entry_times-append}
 use Rattle.dom_forest.proofs.Located.{known, times_of}
 use Rattle.dom_forest.proofs.Parts.{Spanned, cut_part, cut_rest, halves, inner, inner_size, node_on, one_size, outer, part_document, part_forest, part_shifts, put, put_document, put_entries, put_forest, put_shifts, rest_document, rest_forest, root_document, root_forest, root_rest}
-use Rattle.dom_forest.proofs.Spines.{spine-push, spine-put, spine-run, spine-set, spine-without}
+use Rattle.dom_forest.proofs.Spines.{spine-push, spine-put, spine-run, spine-set, spine-without_node}
 
 -- A chain with its entries and their forest.
 pub record Holding (chain : Chain) (entries : List Entry) (forest : Forest) : Type 0 where
@@ -39,12 +39,12 @@ split_there id entries next doc there = split_id id entries (omega (arith, there
 
 pub set_held : (entries : List Entry) (next id : ℕ) (node : NewNode) (chain : Chain) → IsDocument entries next → (x : Split entries id) → length chain.slots.items ≡ next
     → IsChainOf chain (x.front ++ record { depth = x.entry.depth; id = x.entry.id; node = node } ∷ x.back)
-    → Holding chain (x.front ++ record { depth = x.entry.depth; id = x.entry.id; node = node } ∷ x.back) (changed id (λ content kids later. tree id node kids later) (forest_of entries))
+    → Holding chain (x.front ++ record { depth = x.entry.depth; id = x.entry.id; node = node } ∷ x.back) (with_change id (λ content kids later. tree id node kids later) (forest_of entries))
 set_held entries next id node chain doc x size links =
     let e = x.entry in
     let new : Entry = record { depth = e.depth; id = e.id; node = node } in
     let k = known entries x.front x.back e id next doc x.whole x.same in
-    let forest = changed id (λ content kids later. tree id node kids later) (forest_of entries) in
+    let forest = with_change id (λ content kids later. tree id node kids later) (forest_of entries) in
     let written : flat 0 forest [] ≡ x.front ++ new ∷ x.back =
     k.edited (λ content kids later. tree id node kids later)
     ∙ ap (λ i. x.front ++ record { depth = e.depth; id = i; node = node } ∷ flat (e.depth + 1) k.kids (flat e.depth k.later k.back)) (sym x.same)
@@ -102,20 +102,20 @@ module _ (entries : List Entry) (place many depth id next : ℕ) (doc : IsDocume
   part_fits most h small = subst (All (CanShift depth 0)) run_is (part_shifts entries place (place + many) depth id next doc x most h small)
 
   pub rest_held : (chain : Chain) → length chain.slots.items ≡ next → IsChainOf chain (x.front ++ part_after)
-      → Holding chain (x.front ++ part_after) (changed id (λ content kids later. later) (forest_of entries))
+      → Holding chain (x.front ++ part_after) (with_change id (λ content kids later. later) (forest_of entries))
   rest_held chain size links =
       let is = cut_rest entries place (place + many) depth id next doc x in
-      holding chain (x.front ++ part_after) (changed id (λ content kids later. later) (forest_of entries)) links
+      holding chain (x.front ++ part_after) (with_change id (λ content kids later. later) (forest_of entries)) links
       (subst (IsDocument (x.front ++ part_after)) (sym size) (subst (λ es. IsDocument es next) is (rest_document entries place (place + many) depth id next doc x)))
       (ap forest_of (sym is) ∙ rest_forest entries place (place + many) depth id next doc x)
 
-  pub part_held : (chain : Chain) → length chain.slots.items ≡ many → IsChainOf chain (renumbered_entries 0 (map (shifted depth 0) part_run))
-      → Holding chain (renumbered_entries 0 (map (shifted depth 0) part_run)) (renumbered 0 (first_tree (from id (forest_of entries))))
+  pub part_held : (chain : Chain) → length chain.slots.items ≡ many → IsChainOf chain (renumbered_entries 0 (map (shifted_entry depth 0) part_run))
+      → Holding chain (renumbered_entries 0 (map (shifted_entry depth 0) part_run)) (numbered_from 0 (first_tree (from id (forest_of entries))))
   part_held chain size links =
-      let new = renumbered_entries 0 (map (shifted depth 0) part_run) in
-      holding chain new (renumbered 0 (first_tree (from id (forest_of entries)))) links
-      (subst (IsDocument new) (omega (arith, size)) (subst (λ es. IsDocument (renumbered_entries 0 (map (shifted depth 0) es)) (place + many - place)) run_is (part_document entries place (place + many) depth id next doc x)))
-      (ap (λ es. forest_of (renumbered_entries 0 (map (shifted depth 0) es))) (sym run_is) ∙ part_forest entries place (place + many) depth id next doc x)
+      let new = renumbered_entries 0 (map (shifted_entry depth 0) part_run) in
+      holding chain new (numbered_from 0 (first_tree (from id (forest_of entries)))) links
+      (subst (IsDocument new) (omega (arith, size)) (subst (λ es. IsDocument (renumbered_entries 0 (map (shifted_entry depth 0) es)) (place + many - place)) run_is (part_document entries place (place + many) depth id next doc x)))
+      (ap (λ es. forest_of (renumbered_entries 0 (map (shifted_entry depth 0) es))) (sym run_is) ∙ part_forest entries place (place + many) depth id next doc x)
 
   pub part_count : many ≡ count (first_tree (from id (forest_of entries)))
   part_count = omega (arith, one_size entries place (place + many) depth id next doc x)
@@ -124,7 +124,7 @@ module _ (entries : List Entry) (place many depth id next : ℕ) (doc : IsDocume
   rest_spine chain is spine s =
       subst (λ es. IsSpineOf es next spine) (sym is) (
         s.0,
-        spine-without x.front part_run part_after next _ s.0 (λ i. subst (λ es. entry_times i es ≤ 1) part_halves (once_in entries next doc i))
+        spine-without_node x.front part_run part_after next _ s.0 (λ i. subst (λ es. entry_times i es ≤ 1) part_halves (once_in entries next doc i))
             (subst (λ es. IsSpine es next (reverse spine) s.0) part_halves s.1),
       )
 
@@ -136,7 +136,7 @@ module _ (entries : List Entry) (place many depth id next : ℕ) (doc : IsDocume
     put_after = node_on entries place (place + many) depth id next part doc x its
 
     pub put_held : (chain : Chain) → length chain.slots.items ≡ next + length part → IsChainOf chain (x.front ++ (put_run ++ put_after))
-        → Holding chain (x.front ++ (put_run ++ put_after)) (changed id (λ content kids later. joined (renumbered next (forest_of part)) (tree id content kids later)) (forest_of entries))
+        → Holding chain (x.front ++ (put_run ++ put_after)) (with_change id (λ content kids later. joined_forests (numbered_from next (forest_of part)) (tree id content kids later)) (forest_of entries))
     put_held chain size links =
         let is = put_entries entries place (place + many) depth id next part doc x its in
         holding chain (x.front ++ (put_run ++ put_after)) _ links
@@ -168,7 +168,7 @@ back_none (e ∷ es) h = cc
 
 pub noted_spine : (front back : List Entry) (new : Entry) (size : ℕ) (next : Option ℕ) (spine : List ℕ) → next ≡ head_id back None → new.id ≡ size
     → ((i : ℕ) → entry_times i (front ++ new ∷ back) ≤ 1)
-    → IsSpine (front ++ back) size (reverse spine) new.depth → IsSpineOf (front ++ new ∷ back) (size + 1) (noted next size spine)
+    → IsSpine (front ++ back) size (reverse spine) new.depth → IsSpineOf (front ++ new ∷ back) (size + 1) (with_last_id next size spine)
 noted_spine front back new size (Some place) spine is same once s =
     (new.depth, spine-put front back new size (reverse spine) new.depth same (λ d less below. less) s)
 noted_spine front back new size None spine is same once s =
@@ -179,14 +179,14 @@ noted_spine front back new size None spine is same once s =
 
 pub root_held : (entries : List Entry) (next : ℕ) (chain : Chain) (first : Entry) → IsDocument entries next
     → (whole : entries ≡ first ∷ flat 1 (first_kids (forest_of entries)) []) → length chain.slots.items ≡ next
-    → IsChainOf chain (map (shifted 1 0) (flat 1 (first_kids (forest_of entries)) []))
-    → Holding chain (map (shifted 1 0) (flat 1 (first_kids (forest_of entries)) [])) (first_kids (forest_of entries))
+    → IsChainOf chain (map (shifted_entry 1 0) (flat 1 (first_kids (forest_of entries)) []))
+    → Holding chain (map (shifted_entry 1 0) (flat 1 (first_kids (forest_of entries)) [])) (first_kids (forest_of entries))
 root_held entries next chain first doc whole size links =
     let is = root_rest entries next doc first whole in
-    holding chain (map (shifted 1 0) (flat 1 (first_kids (forest_of entries)) [])) (first_kids (forest_of entries)) links
-    (subst (IsDocument (map (shifted 1 0) (flat 1 (first_kids (forest_of entries)) []))) (sym size)
-    (subst (λ es. IsDocument (map (shifted 1 0) es) next) is (root_document entries next doc first whole)))
-    (ap (λ es. forest_of (map (shifted 1 0) es)) (sym is) ∙ root_forest entries next doc first whole)
+    holding chain (map (shifted_entry 1 0) (flat 1 (first_kids (forest_of entries)) [])) (first_kids (forest_of entries)) links
+    (subst (IsDocument (map (shifted_entry 1 0) (flat 1 (first_kids (forest_of entries)) []))) (sym size)
+    (subst (λ es. IsDocument (map (shifted_entry 1 0) es) next) is (root_document entries next doc first whole)))
+    (ap (λ es. forest_of (map (shifted_entry 1 0) es)) (sym is) ∙ root_forest entries next doc first whole)
 
 pub first_same : (o : Option ℕ) (i j : ℕ) → o ≡ Some i → o ≡ Some j → i ≡ j
 first_same o i j h k = cc

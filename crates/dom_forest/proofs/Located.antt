@@ -6,10 +6,10 @@ use Rattle.std.proofs.lemmas.List.{take_at, drop_at}
 use Rattle.dom_forest.specs.declared.node.NewNode.{NewNode}
 use Rattle.dom_forest.specs.declared.entry.Entry.{Entry}
 use Rattle.dom_forest.specs.Forest.{Forest, empty, tree, times, count, from, or_id, parent_of, previous_of, next_of, first_id, first_kids, first_later}
-use Rattle.dom_forest.specs.Edits.{changed}
+use Rattle.dom_forest.specs.Edits.{with_change}
 use Rattle.dom_forest.specs.Flat.{flat, forest_of, IsDocument, IsPlace}
 use Rattle.dom_forest.proofs.Flattening.{drop-flat, entry_times, entry_times-append, entry_times-flat, counts_one, EndsAbove, EndsAbove-later, prefix_len-flat, prefix_len-above}
-use Rattle.dom_forest.specs.Runs.{kept, parent_step, previous_step, level_id, deeper_id, below_at, closing_in, entry_id}
+use Rattle.dom_forest.specs.Runs.{id_after, parent_step, previous_step, level_id, deeper_id, below_at, closing_in, entry_id}
 use Rattle.dom_forest.specs.declared.boundary.Turn.{Turn}
 use Rattle.dom_forest.specs.declared.boundary.Turn.TheVariants.{Opens, Closes, Stays}
 use Rattle.dom_forest.specs.Boundary.{searched_past, turn_of, closing_mark, end_of_boundary}
@@ -49,11 +49,11 @@ pub record Located (entries : List Entry) (at id : ℕ) : Type 0 where
   pub place : length front ≡ at
   pub found : from id (forest_of entries) ≡ tree id content kids later
   pub whole : entries ≡ front ++ flat depth (tree id content kids later) back
-  pub edited : (change : NewNode → Forest → Forest → Forest) → flat 0 (changed id change (forest_of entries)) [] ≡ front ++ flat depth (change content kids later) back
+  pub edited : (change : NewNode → Forest → Forest → Forest) → flat 0 (with_change id change (forest_of entries)) [] ≡ front ++ flat depth (change content kids later) back
   pub ends : EndsAbove depth back
   pub deep : depth ≤ at
-  pub parent : parent_of id (forest_of entries) ≡ kept (parent_step depth) None front
-  pub previous : previous_of id (forest_of entries) ≡ kept (previous_step depth) None front
+  pub parent : parent_of id (forest_of entries) ≡ id_after (parent_step depth) None front
+  pub previous : previous_of id (forest_of entries) ≡ id_after (previous_step depth) None front
 
 located_at : (entries : List Entry) (at id next : ℕ) → IsDocument entries next → IsPlace entries at id → Focus id 0 (forest_of entries) [] None None → Located entries at id
 located_at entries at id next doc here x =
@@ -90,11 +90,11 @@ pub record Known (front : List Entry) (entry : Entry) (after : List Entry) (id :
   pub back : List Entry
   pub shape : after ≡ flat (entry.depth + 1) kids (flat entry.depth later back)
   pub found : from id forest ≡ tree id entry.node kids later
-  pub edited : (change : NewNode → Forest → Forest → Forest) → flat 0 (changed id change forest) [] ≡ front ++ flat entry.depth (change entry.node kids later) back
+  pub edited : (change : NewNode → Forest → Forest → Forest) → flat 0 (with_change id change forest) [] ≡ front ++ flat entry.depth (change entry.node kids later) back
   pub ends : EndsAbove entry.depth back
   pub deep : entry.depth ≤ length front
-  pub parent : parent_of id forest ≡ kept (parent_step entry.depth) None front
-  pub previous : previous_of id forest ≡ kept (previous_step entry.depth) None front
+  pub parent : parent_of id forest ≡ id_after (parent_step entry.depth) None front
+  pub previous : previous_of id forest ≡ id_after (previous_step entry.depth) None front
 
 pub place_in : (front : List Entry) (e : Entry) (after : List Entry) (id : ℕ) → e.id ≡ id → IsPlace (front ++ e ∷ after) (length front) id
 place_in [] e after id h = h

@@ -5,7 +5,7 @@ use Rattle.std.proofs.lemmas.List.Elements.{All-head, All-tail}
 use Rattle.dom_forest.specs.declared.entry.Entry.{Entry}
 use Rattle.dom_forest.specs.declared.chain.Chain.{Chain}
 use Rattle.dom_forest.specs.Chain.{IsChainOf, head_id}
-use Rattle.dom_forest.specs.Flat.{CanShift, renumbered_entries, shifted}
+use Rattle.dom_forest.specs.Flat.{CanShift, renumbered_entries, shifted_entry}
 use Rattle.dom_forest.specs.Moves.{Moved}
 use Rattle.dom_forest.proofs.Renumbering.{renumbered_entries-push}
 
@@ -40,13 +40,13 @@ map-push f [] e = refl
 map-push f (x ∷ es) e = ap (λ l. f x ∷ l) (map-push f es e)
 
 moved_push : (first up down : ℕ) (es : List Entry) (e : Entry) (k : ℕ) → length es ≡ k
-    → renumbered_entries first (map (shifted up down) (es ++ e ∷ []))
-    ≡ renumbered_entries first (map (shifted up down) es) ++ record { depth = e.depth - up + down; id = first + k; node = e.node } ∷ []
+    → renumbered_entries first (map (shifted_entry up down) (es ++ e ∷ []))
+    ≡ renumbered_entries first (map (shifted_entry up down) es) ++ record { depth = e.depth - up + down; id = first + k; node = e.node } ∷ []
 moved_push first up down es e k size =
-    ap (renumbered_entries first) (map-push (shifted up down) es e)
-    ∙ renumbered_entries-push first (map (shifted up down) es) (shifted up down e)
-    ∙ ap (λ n. renumbered_entries first (map (shifted up down) es) ++ record { depth = e.depth - up + down; id = first + n; node = e.node } ∷ [])
-    (length-map es (shifted up down) ∙ size)
+    ap (renumbered_entries first) (map-push (shifted_entry up down) es e)
+    ∙ renumbered_entries-push first (map (shifted_entry up down) es) (shifted_entry up down e)
+    ∙ ap (λ n. renumbered_entries first (map (shifted_entry up down) es) ++ record { depth = e.depth - up + down; id = first + n; node = e.node } ∷ [])
+    (length-map es (shifted_entry up down) ∙ size)
 
 pub moved_none : (part chain : Chain) (first next : Option ℕ) (many up down : ℕ) → Moved part chain part chain first first next many 0 up down
 moved_none part chain first next many up down = record {
@@ -73,17 +73,17 @@ moved_one old_part old_chain part chain part' chain' first id next result many k
       let t = there run k (omega (arith, h, size)) in
       let l = m.left before run after whole head size in
       let n = length old_chain.slots.items in
-      let done = renumbered_entries n (map (shifted up down) (take k run)) in
+      let done = renumbered_entries n (map (shifted_entry up down) (take k run)) in
       let now = m.moved before run after whole head size fits front back links is in
       let new = put before (drop (k + 1) run ++ after) t.entry (subst (λ es. IsChainOf part (before ++ (es ++ after))) t.rest l.0) (l.1 ∙ ap (λ es. head_id (es ++ after) None) t.rest)
       (all_at (CanShift up down) run k t.entry (drop (k + 1) run) t.rest fits)
       (front ++ done) back (subst (IsChainOf chain) (sym (append_assoc front done back)) now.0) is in
       let row : ℕ → Entry = λ i. record { depth = t.entry.depth - up + down; id = i; node = t.entry.node } in
-      let whole_is : (front ++ done) ++ row (length chain.slots.items) ∷ back ≡ front ++ (renumbered_entries n (map (shifted up down) (take (k + 1) run)) ++ back) =
+      let whole_is : (front ++ done) ++ row (length chain.slots.items) ∷ back ≡ front ++ (renumbered_entries n (map (shifted_entry up down) (take (k + 1) run)) ++ back) =
       append_assoc front done (row (length chain.slots.items) ∷ back)
       ∙ ap (λ i. front ++ (done ++ row i ∷ back)) now.1
       ∙ ap (λ es. front ++ es) (sym (append_assoc done (row (n + k) ∷ []) back))
-      ∙ ap (λ es. front ++ (es ++ back)) (sym (ap (λ es. renumbered_entries n (map (shifted up down) es)) t.front ∙ moved_push n up down (take k run) t.entry k (length-take-le k run (omega (arith, h, size))))) in
+      ∙ ap (λ es. front ++ (es ++ back)) (sym (ap (λ es. renumbered_entries n (map (shifted_entry up down) es)) t.front ∙ moved_push n up down (take k run) t.entry k (length-take-le k run (omega (arith, h, size))))) in
       (subst (IsChainOf chain') whole_is new.0, omega (arith, new.1, now.1));
   ids = same ∙ m.ids;
 }
@@ -96,8 +96,8 @@ moved_part old_part old_chain part chain first id next many up down m before run
 pub moved_chain : (old_part old_chain part chain : Chain) (first id next : Option ℕ) (many up down : ℕ) → Moved old_part old_chain part chain first id next many many up down
     → (before run after : List Entry) → IsChainOf old_part (before ++ (run ++ after)) → first ≡ head_id (run ++ after) None → length run ≡ many
     → All (CanShift up down) run → (front back : List Entry) → IsChainOf old_chain (front ++ back) → next ≡ head_id back None
-    → IsChainOf chain (front ++ (renumbered_entries (length old_chain.slots.items) (map (shifted up down) run) ++ back))
+    → IsChainOf chain (front ++ (renumbered_entries (length old_chain.slots.items) (map (shifted_entry up down) run) ++ back))
     × (length chain.slots.items ≡ length old_chain.slots.items + many)
 moved_chain old_part old_chain part chain first id next many up down m before run after whole head size fits front back links is =
-    subst (λ es. IsChainOf chain (front ++ (renumbered_entries (length old_chain.slots.items) (map (shifted up down) es) ++ back)) × (length chain.slots.items ≡ length old_chain.slots.items + many))
+    subst (λ es. IsChainOf chain (front ++ (renumbered_entries (length old_chain.slots.items) (map (shifted_entry up down) es) ++ back)) × (length chain.slots.items ≡ length old_chain.slots.items + many))
     (take_all many run (omega (arith, size))) (m.moved before run after whole head size fits front back links is)

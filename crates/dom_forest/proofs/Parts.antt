@@ -5,13 +5,13 @@ use Rattle.std.proofs.lemmas.List.{append_assoc, take_at, drop_at, length-append
 use Rattle.std.proofs.lemmas.List.Elements.{All-from_recursion}
 use Rattle.dom_forest.specs.declared.node.NewNode.{NewNode}
 use Rattle.dom_forest.specs.declared.entry.Entry.{Entry}
-use Rattle.dom_forest.specs.Forest.{Forest, empty, tree, count, joined, from, first_tree, first_kids, IsOneElement}
-use Rattle.dom_forest.specs.Edits.{changed, renumbered}
-use Rattle.dom_forest.specs.Flat.{flat, forest_of, shifted, renumbered_entries, CanShift, IsDocument, IsSpan}
-use Rattle.dom_forest.proofs.Flattening.{flat-append, flat-joined, length-flat, entry_times, entry_times-append}
+use Rattle.dom_forest.specs.Forest.{Forest, empty, tree, count, joined_forests, from, first_tree, first_kids, IsOneElement}
+use Rattle.dom_forest.specs.Edits.{with_change, numbered_from}
+use Rattle.dom_forest.specs.Flat.{flat, forest_of, shifted_entry, renumbered_entries, CanShift, IsDocument, IsSpan}
+use Rattle.dom_forest.proofs.Flattening.{flat-append, flat-joined_forests, length-flat, entry_times, entry_times-append}
 use Rattle.dom_forest.proofs.Located.{Known, known}
 use Rattle.dom_forest.proofs.Documents.{document_from, forest_from, once_in, given_in, span_kids}
-use Rattle.dom_forest.proofs.Renumbering.{renumbered-flat, shifted-flat, renumbered_times-below, renumbered_times-past, renumbered_times-once, depths-flat, can_shift, shifted_times}
+use Rattle.dom_forest.proofs.Renumbering.{numbered_from-flat, shifted_entry-flat, renumbered_times-below, renumbered_times-past, renumbered_times-once, depths-flat, can_shift, shifted_times}
 
 -- A node, with its entries before, below and after it.
 pub record Spanned (entries : List Entry) (at end depth id : ℕ) : Type 0 where
@@ -24,7 +24,7 @@ pub record Spanned (entries : List Entry) (at end depth id : ℕ) : Type 0 where
   pub past : end ≡ at + 1 + count kids
   pub whole : entries ≡ front ++ flat depth (tree id content kids later) back
   pub found : from id (forest_of entries) ≡ tree id content kids later
-  pub edited : (change : NewNode → Forest → Forest → Forest) → flat 0 (changed id change (forest_of entries)) [] ≡ front ++ flat depth (change content kids later) back
+  pub edited : (change : NewNode → Forest → Forest → Forest) → flat 0 (with_change id change (forest_of entries)) [] ≡ front ++ flat depth (change content kids later) back
   pub deep : depth ≤ at
 
 spanned_known : (entries : List Entry) (at end depth id : ℕ) (span : IsSpan entries at end depth id) → Known span.front span.entry span.after id (forest_of entries) → Spanned entries at end depth id
@@ -90,11 +90,11 @@ module _ (entries : List Entry) (at end depth id next : ℕ) (doc : IsDocument e
   pub rest_document : IsDocument (take at entries ++ drop end entries) next
   rest_document =
       subst (λ es. IsDocument es next) (sym cut_rest)
-      (document_from (x.front ++ outer) (changed id (λ content kids later. later) (forest_of entries)) next (x.edited (λ content kids later. later))
+      (document_from (x.front ++ outer) (with_change id (λ content kids later. later) (forest_of entries)) next (x.edited (λ content kids later. later))
       (λ j. omega (arith, rest_times j, once_in entries next doc j))
       (λ j h. omega (arith, rest_times j, given_in entries next doc j h)))
 
-  pub rest_forest : forest_of (take at entries ++ drop end entries) ≡ changed id (λ content kids later. later) (forest_of entries)
+  pub rest_forest : forest_of (take at entries ++ drop end entries) ≡ with_change id (λ content kids later. later) (forest_of entries)
   rest_forest = forest_from _ _ (x.edited (λ content kids later. later) ∙ sym cut_rest)
 
   pub one_is : one ≡ first_tree (from id (forest_of entries))
@@ -104,23 +104,23 @@ module _ (entries : List Entry) (at end depth id next : ℕ) (doc : IsDocument e
   one_size = omega (arith, x.past, ap count one_is)
 
   -- the part as a document of its own
-  part_is : renumbered_entries 0 (map (shifted depth 0) inner) ≡ flat 0 (renumbered 0 one) []
+  part_is : renumbered_entries 0 (map (shifted_entry depth 0) inner) ≡ flat 0 (numbered_from 0 one) []
   part_is =
-      ap (λ n. renumbered_entries 0 (map (shifted depth 0) (flat n one []))) (sym (add-zero depth))
-      ∙ ap (renumbered_entries 0) (shifted-flat depth 0 0 one [])
-      ∙ renumbered-flat 0 0 one []
+      ap (λ n. renumbered_entries 0 (map (shifted_entry depth 0) (flat n one []))) (sym (add-zero depth))
+      ∙ ap (renumbered_entries 0) (shifted_entry-flat depth 0 0 one [])
+      ∙ numbered_from-flat 0 0 one []
 
-  pub part_written : flat 0 (renumbered 0 one) [] ≡ renumbered_entries 0 (map (shifted depth 0) (take (end - at) (drop at entries)))
-  part_written = sym part_is ∙ ap (λ es. renumbered_entries 0 (map (shifted depth 0) es)) (sym cut_part)
+  pub part_written : flat 0 (numbered_from 0 one) [] ≡ renumbered_entries 0 (map (shifted_entry depth 0) (take (end - at) (drop at entries)))
+  part_written = sym part_is ∙ ap (λ es. renumbered_entries 0 (map (shifted_entry depth 0) es)) (sym cut_part)
 
-  pub part_document : IsDocument (renumbered_entries 0 (map (shifted depth 0) (take (end - at) (drop at entries)))) (end - at)
+  pub part_document : IsDocument (renumbered_entries 0 (map (shifted_entry depth 0) (take (end - at) (drop at entries)))) (end - at)
   part_document =
-      document_from _ (renumbered 0 one) (end - at) part_written
+      document_from _ (numbered_from 0 one) (end - at) part_written
       (λ j. renumbered_times-once 0 _ j)
-      (λ j h. renumbered_times-past 0 _ j (omega (arith, length-map (take (end - at) (drop at entries)) (shifted depth 0), ap length cut_part, inner_size)))
+      (λ j h. renumbered_times-past 0 _ j (omega (arith, length-map (take (end - at) (drop at entries)) (shifted_entry depth 0), ap length cut_part, inner_size)))
 
-  pub part_forest : forest_of (renumbered_entries 0 (map (shifted depth 0) (take (end - at) (drop at entries)))) ≡ renumbered 0 (first_tree (from id (forest_of entries)))
-  part_forest = forest_from _ _ part_written ∙ ap (renumbered 0) one_is
+  pub part_forest : forest_of (renumbered_entries 0 (map (shifted_entry depth 0) (take (end - at) (drop at entries)))) ≡ numbered_from 0 (first_tree (from id (forest_of entries)))
+  part_forest = forest_from _ _ part_written ∙ ap (numbered_from 0) one_is
 
   pub part_shifts : (most : ℕ) → length entries ≤ most → most ≤ 2 ^ 64 → All (CanShift depth 0) (take (end - at) (drop at entries))
   part_shifts most fits small =
@@ -132,16 +132,16 @@ module _ (entries : List Entry) (at end depth id next : ℕ) (doc : IsDocument e
 
 module _ (entries : List Entry) (at end depth id first : ℕ) (part : List Entry) (doc : IsDocument entries first) (x : Spanned entries at end depth id) (its : flat 0 (forest_of part) [] ≡ part) where
   abbrev put_change : NewNode → Forest → Forest → Forest
-  put_change content kids later = joined (renumbered first (forest_of part)) (tree id content kids later)
+  put_change content kids later = joined_forests (numbered_from first (forest_of part)) (tree id content kids later)
 
   abbrev pub put : List Entry
-  put = renumbered_entries first (map (shifted 0 depth) part)
+  put = renumbered_entries first (map (shifted_entry 0 depth) part)
 
-  put_is : put ≡ flat depth (renumbered first (forest_of part)) []
+  put_is : put ≡ flat depth (numbered_from first (forest_of part)) []
   put_is =
-      ap (λ es. renumbered_entries first (map (shifted 0 depth) es)) (sym its)
-      ∙ ap (renumbered_entries first) (shifted-flat 0 depth 0 (forest_of part) [] ∙ ap (λ n. flat n (forest_of part) []) (omega arith))
-      ∙ renumbered-flat first depth (forest_of part) []
+      ap (λ es. renumbered_entries first (map (shifted_entry 0 depth) es)) (sym its)
+      ∙ ap (renumbered_entries first) (shifted_entry-flat 0 depth 0 (forest_of part) [] ∙ ap (λ n. flat n (forest_of part) []) (omega arith))
+      ∙ numbered_from-flat first depth (forest_of part) []
 
   abbrev pub node_on : List Entry
   node_on = flat depth (tree id x.content x.kids x.later) x.back
@@ -152,15 +152,15 @@ module _ (entries : List Entry) (at end depth id first : ℕ) (part : List Entry
       ∙ ap (λ es. es ++ (put ++ drop at (x.front ++ node_on))) (take_at x.front node_on at x.place)
       ∙ ap (λ es. x.front ++ (put ++ es)) (drop_at x.front node_on at x.place)
 
-  put_written : flat 0 (changed id put_change (forest_of entries)) [] ≡ take at entries ++ (put ++ drop at entries)
+  put_written : flat 0 (with_change id put_change (forest_of entries)) [] ≡ take at entries ++ (put ++ drop at entries)
   put_written =
       x.edited put_change
-      ∙ ap (λ es. x.front ++ es) (flat-joined depth (renumbered first (forest_of part)) (tree id x.content x.kids x.later) x.back
-      ∙ flat-append depth (renumbered first (forest_of part)) [] node_on ∙ ap (λ es. es ++ node_on) (sym put_is))
+      ∙ ap (λ es. x.front ++ es) (flat-joined_forests depth (numbered_from first (forest_of part)) (tree id x.content x.kids x.later) x.back
+      ∙ flat-append depth (numbered_from first (forest_of part)) [] node_on ∙ ap (λ es. es ++ node_on) (sym put_is))
       ∙ sym put_entries
 
-  put_size : length (map (shifted 0 depth) part) ≡ length part
-  put_size = length-map part (shifted 0 depth)
+  put_size : length (map (shifted_entry 0 depth) part) ≡ length part
+  put_size = length-map part (shifted_entry 0 depth)
 
   put_times : (j : ℕ) → entry_times j (take at entries ++ (put ++ drop at entries)) ≡ entry_times j put + entry_times j entries
   put_times j =
@@ -168,23 +168,23 @@ module _ (entries : List Entry) (at end depth id first : ℕ) (part : List Entry
 
   put_once : (j : ℕ) → entry_times j (take at entries ++ (put ++ drop at entries)) ≤ 1
   put_once j = elim (cases_lt j first) [
-    | inl old ↦ omega (arith, put_times j, once_in entries first doc j, renumbered_times-below first (map (shifted 0 depth) part) j old)
-    | inr new ↦ omega (arith, put_times j, given_in entries first doc j new, renumbered_times-once first (map (shifted 0 depth) part) j)
+    | inl old ↦ omega (arith, put_times j, once_in entries first doc j, renumbered_times-below first (map (shifted_entry 0 depth) part) j old)
+    | inr new ↦ omega (arith, put_times j, given_in entries first doc j new, renumbered_times-once first (map (shifted_entry 0 depth) part) j)
   ]
 
   pub put_document : (next : ℕ) → next ≡ first + length part → IsDocument (take at entries ++ (put ++ drop at entries)) next
   put_document next is =
-      document_from _ (changed id put_change (forest_of entries)) next put_written put_once
+      document_from _ (with_change id put_change (forest_of entries)) next put_written put_once
       (λ j h. omega (
         arith,
         is,
         put_times j,
         given_in entries first doc j (omega (arith, is)),
         put_size,
-        renumbered_times-past first (map (shifted 0 depth) part) j (omega (arith, is, put_size)),
+        renumbered_times-past first (map (shifted_entry 0 depth) part) j (omega (arith, is, put_size)),
       ))
 
-  pub put_forest : forest_of (take at entries ++ (put ++ drop at entries)) ≡ changed id put_change (forest_of entries)
+  pub put_forest : forest_of (take at entries ++ (put ++ drop at entries)) ≡ with_change id put_change (forest_of entries)
   put_forest = forest_from _ _ put_written
 
   pub put_shifts : length part + depth ≤ 2 ^ 64 → All (CanShift 0 depth) part
@@ -207,19 +207,19 @@ module _ (entries : List Entry) (next : ℕ) (doc : IsDocument entries next) (fi
   pub root_rest : drop 1 entries ≡ flat 1 (first_kids (forest_of entries)) []
   root_rest = ap (drop 1) whole
 
-  pub root_written : flat 0 (first_kids (forest_of entries)) [] ≡ map (shifted 1 0) (drop 1 entries)
-  root_written = sym (shifted-flat 1 0 0 (first_kids (forest_of entries)) []) ∙ ap (map (shifted 1 0)) (sym root_rest)
+  pub root_written : flat 0 (first_kids (forest_of entries)) [] ≡ map (shifted_entry 1 0) (drop 1 entries)
+  root_written = sym (shifted_entry-flat 1 0 0 (first_kids (forest_of entries)) []) ∙ ap (map (shifted_entry 1 0)) (sym root_rest)
 
-  root_times : (j : ℕ) → entry_times j (map (shifted 1 0) (drop 1 entries)) ≤ entry_times j entries
+  root_times : (j : ℕ) → entry_times j (map (shifted_entry 1 0) (drop 1 entries)) ≤ entry_times j entries
   root_times j = omega (arith, shifted_times 1 0 (drop 1 entries) j, ap (entry_times j) whole, ap (entry_times j) root_rest)
 
-  pub root_document : IsDocument (map (shifted 1 0) (drop 1 entries)) next
+  pub root_document : IsDocument (map (shifted_entry 1 0) (drop 1 entries)) next
   root_document =
       document_from _ (first_kids (forest_of entries)) next root_written
       (λ j. omega (arith, root_times j, once_in entries next doc j))
       (λ j h. omega (arith, root_times j, given_in entries next doc j h))
 
-  pub root_forest : forest_of (map (shifted 1 0) (drop 1 entries)) ≡ first_kids (forest_of entries)
+  pub root_forest : forest_of (map (shifted_entry 1 0) (drop 1 entries)) ≡ first_kids (forest_of entries)
   root_forest = forest_from _ _ root_written
 
   pub root_shifts : length entries ≤ 2 ^ 64 → All (CanShift 1 0) (drop 1 entries)

@@ -3,8 +3,8 @@ use Rattle.std.proofs.Common.{◌≡◌, ℕ, suc, ◌+◌, ◌<◌, ◌≤◌, 
 use Rattle.std.specs.List.{AllByRecursion}
 use Rattle.dom_forest.specs.declared.entry.Entry.{Entry}
 use Rattle.dom_forest.specs.Forest.{Forest, empty, tree, count}
-use Rattle.dom_forest.specs.Edits.{renumbered}
-use Rattle.dom_forest.specs.Flat.{flat, shifted, renumbered_entries, CanShift}
+use Rattle.dom_forest.specs.Edits.{numbered_from}
+use Rattle.dom_forest.specs.Flat.{flat, shifted_entry, renumbered_entries, CanShift}
 use Rattle.std.proofs.lemmas.Bool.{cases_eq}
 use Rattle.dom_forest.proofs.Flattening.{entry_times, counts_one, counts_none}
 
@@ -21,26 +21,26 @@ length-renumbered_entries next [] = refl
 length-renumbered_entries next (e ∷ es) = ap suc (length-renumbered_entries (next + 1) es)
 
 -- A forest's flat list keeps its shape.
-pub renumbered-flat : (next depth : ℕ) (forest : Forest) (more : List Entry)
-    → renumbered_entries next (flat depth forest more) ≡ flat depth (renumbered next forest) (renumbered_entries (next + count forest) more)
-renumbered-flat next depth empty more = ap (λ n. renumbered_entries n more) (sym (add-zero next))
-renumbered-flat next depth (tree i content kids later) more =
+pub numbered_from-flat : (next depth : ℕ) (forest : Forest) (more : List Entry)
+    → renumbered_entries next (flat depth forest more) ≡ flat depth (numbered_from next forest) (renumbered_entries (next + count forest) more)
+numbered_from-flat next depth empty more = ap (λ n. renumbered_entries n more) (sym (add-zero next))
+numbered_from-flat next depth (tree i content kids later) more =
     ap (λ es. record { depth = depth; id = next; node = content } ∷ es)
-    (renumbered-flat (next + 1) (depth + 1) kids (flat depth later more)
-    ∙ ap (flat (depth + 1) (renumbered (next + 1) kids))
-    (renumbered-flat (next + 1 + count kids) depth later more
-    ∙ ap (λ n. flat depth (renumbered (next + 1 + count kids) later) (renumbered_entries n more)) (omega arith)))
+    (numbered_from-flat (next + 1) (depth + 1) kids (flat depth later more)
+    ∙ ap (flat (depth + 1) (numbered_from (next + 1) kids))
+    (numbered_from-flat (next + 1 + count kids) depth later more
+    ∙ ap (λ n. flat depth (numbered_from (next + 1 + count kids) later) (renumbered_entries n more)) (omega arith)))
 
-pub shifted-flat : (up down depth : ℕ) (forest : Forest) (more : List Entry)
-    → map (shifted up down) (flat (up + depth) forest more) ≡ flat (depth + down) forest (map (shifted up down) more)
-shifted-flat up down depth empty more = refl
-shifted-flat up down depth (tree i content kids later) more =
-    ap (λ n. record { depth = n; id = i; node = content } ∷ map (shifted up down) (flat (up + depth + 1) kids (flat (up + depth) later more))) (omega arith)
+pub shifted_entry-flat : (up down depth : ℕ) (forest : Forest) (more : List Entry)
+    → map (shifted_entry up down) (flat (up + depth) forest more) ≡ flat (depth + down) forest (map (shifted_entry up down) more)
+shifted_entry-flat up down depth empty more = refl
+shifted_entry-flat up down depth (tree i content kids later) more =
+    ap (λ n. record { depth = n; id = i; node = content } ∷ map (shifted_entry up down) (flat (up + depth + 1) kids (flat (up + depth) later more))) (omega arith)
     ∙ ap (λ es. record { depth = depth + down; id = i; node = content } ∷ es)
-    (ap (λ n. map (shifted up down) (flat n kids (flat (up + depth) later more))) (omega arith)
-    ∙ shifted-flat up down (depth + 1) kids (flat (up + depth) later more)
-    ∙ ap (λ n. flat n kids (map (shifted up down) (flat (up + depth) later more))) (omega arith)
-    ∙ ap (flat (depth + down + 1) kids) (shifted-flat up down depth later more))
+    (ap (λ n. map (shifted_entry up down) (flat n kids (flat (up + depth) later more))) (omega arith)
+    ∙ shifted_entry-flat up down (depth + 1) kids (flat (up + depth) later more)
+    ∙ ap (λ n. flat n kids (map (shifted_entry up down) (flat (up + depth) later more))) (omega arith)
+    ∙ ap (flat (depth + down + 1) kids) (shifted_entry-flat up down depth later more))
 
 -- Ids that ascend stand once each, from the first on.
 pub renumbered_times-below : (next : ℕ) (es : List Entry) (id : ℕ) → id < next → entry_times id (renumbered_entries next es) ≡ 0
@@ -59,7 +59,7 @@ renumbered_times-once next (e ∷ es) id = elim (cases_eq next id) [
 ]
 
 -- The times of an id stay where entries are moved.
-pub shifted_times : (up down : ℕ) (es : List Entry) (id : ℕ) → entry_times id (map (shifted up down) es) ≡ entry_times id es
+pub shifted_times : (up down : ℕ) (es : List Entry) (id : ℕ) → entry_times id (map (shifted_entry up down) es) ≡ entry_times id es
 shifted_times up down [] id = refl
 shifted_times up down (e ∷ es) id = omega (arith, shifted_times up down es id)
 

@@ -6,7 +6,7 @@ use Rattle.std.proofs.lemmas.List.{append_assoc, drop_at, take-append-drop, reve
 use Rattle.dom_forest.specs.declared.entry.Entry.{Entry}
 use Rattle.dom_forest.specs.declared.chain.Slot.{Slot}
 use Rattle.dom_forest.specs.Chain.{IsChain, entry_in, entry_times, rest_from, slot_at}
-use Rattle.dom_forest.specs.Flat.{shifted, renumbered_entries}
+use Rattle.dom_forest.specs.Flat.{shifted_entry, renumbered_entries}
 use Rattle.dom_forest.specs.Runs.{below_at}
 use Rattle.dom_forest.specs.Spine.{AllBelow, IsSpine, IsSpineOf, OnSpine, first_place, is_late}
 use Rattle.dom_forest.proofs.Flattening.{entry_times-append, counts_one}
@@ -84,11 +84,11 @@ spine-put front back new next (id ∷ ids) bound is deep s = (
 
 -- Entries come in that are no less deep than the one before which they stand.
 pub spine-run : (front es back : List Entry) (level first : ℕ) (ids : List ℕ) (bound : ℕ) → ((depth : ℕ) → AllBelow depth back → depth < level)
-    → IsSpine (front ++ back) first ids bound → IsSpine (front ++ (renumbered_entries first (map (shifted 0 level) es) ++ back)) (first + length es) ids bound
+    → IsSpine (front ++ back) first ids bound → IsSpine (front ++ (renumbered_entries first (map (shifted_entry 0 level) es) ++ back)) (first + length es) ids bound
 spine-run front [] back level first ids bound deep s = subst (λ n. IsSpine (front ++ back) n ids bound) (omega arith) s
 spine-run front (e ∷ es) back level first ids bound deep s =
     let new : Entry = record { depth = e.depth - 0 + level; id = first; node = e.node } in
-    let rest = renumbered_entries (first + 1) (map (shifted 0 level) es) in
+    let rest = renumbered_entries (first + 1) (map (shifted_entry 0 level) es) in
     subst (λ n. IsSpine (front ++ new ∷ (rest ++ back)) n ids bound) (omega arith)
     (subst (λ l. IsSpine l (first + 1 + length es) ids bound) (append_assoc front (new ∷ []) (rest ++ back))
     (spine-run (front ++ new ∷ []) es back level (first + 1) ids bound deep
@@ -127,11 +127,11 @@ spine-take front back e next (id ∷ ids) bound once s = (
       (λ b c le a. spine-wider (front ++ back) next ids b c le (spine-take front back e next ids b once a)) s.1,
 )
 
-pub spine-without : (front run back : List Entry) (next : ℕ) (ids : List ℕ) (bound : ℕ) → ((i : ℕ) → entry_times i (front ++ (run ++ back)) ≤ 1)
+pub spine-without_node : (front run back : List Entry) (next : ℕ) (ids : List ℕ) (bound : ℕ) → ((i : ℕ) → entry_times i (front ++ (run ++ back)) ≤ 1)
     → IsSpine (front ++ (run ++ back)) next ids bound → IsSpine (front ++ back) next ids bound
-spine-without front [] back next ids bound once s = s
-spine-without front (e ∷ run) back next ids bound once s =
-    spine-without front run back next ids bound
+spine-without_node front [] back next ids bound once s = s
+spine-without_node front (e ∷ run) back next ids bound once s =
+    spine-without_node front run back next ids bound
     (λ i. omega (arith, once i, entry_times-append i front (e ∷ (run ++ back)), entry_times-append i front (run ++ back)))
     (spine-take front (run ++ back) e next ids bound once s)
 

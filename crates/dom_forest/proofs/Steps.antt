@@ -7,9 +7,9 @@ use Rattle.dom_forest.specs.declared.entry.Entry.{Entry}
 use Rattle.dom_forest.specs.Chain.{entry_times, head_id, last_id, rest_from, up_to}
 use Rattle.dom_forest.specs.Forest.{Forest, empty, tree, first_id}
 use Rattle.dom_forest.specs.Flat.{flat}
-use Rattle.dom_forest.specs.Runs.{below_at, kept}
+use Rattle.dom_forest.specs.Runs.{below_at, id_after}
 use Rattle.dom_forest.proofs.Flattening.{counts_one}
-use Rattle.dom_forest.proofs.Focus.{kept-append}
+use Rattle.dom_forest.proofs.Focus.{id_after-append}
 
 pub not_deeper : (depth : ℕ) (es : List Entry) (e : Entry) (rest : List Entry) → es ≡ e ∷ rest → ltb depth e.depth ≡ false → prefix_len (below_at depth) es ≡ 0
 not_deeper depth es e rest is h = ap (prefix_len (below_at depth)) is ∙ cond-false (ltb depth e.depth) _ _ h
@@ -53,8 +53,8 @@ last_there (e ∷ es) id h = last-there None e es id h
 pub before_there : (es : List Entry) (id : ℕ) → Some id ≡ last_id None (up_to (Some id) es) → entry_times id es ≡ 0 → ⊥
 before_there es id last gone = omega (arith, gone, last_there es id (last ∙ ap (last_id None) (up_gone id es gone)))
 
-pub kept_last : (step : Entry → Option ℕ → Option ℕ) (es front : List Entry) (e : Entry) → es ≡ front ++ e ∷ [] → kept step None es ≡ step e (kept step None front)
-kept_last step es front e is = ap (kept step None) is ∙ kept-append step None front (e ∷ [])
+pub kept_last : (step : Entry → Option ℕ → Option ℕ) (es front : List Entry) (e : Entry) → es ≡ front ++ e ∷ [] → id_after step None es ≡ step e (id_after step None front)
+kept_last step es front e is = ap (id_after step None) is ∙ id_after-append step None front (e ∷ [])
 
 pub shorter_last : (es front : List Entry) (e : Entry) → es ≡ front ++ e ∷ [] → length front < length es
 shorter_last es front e is = omega (arith, ap length is, length-append front (e ∷ []))

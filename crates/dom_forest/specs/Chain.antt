@@ -49,22 +49,22 @@ pub record IsChain (slots : List (Option Slot)) (first last : Option ℕ) (entri
 abbrev pub IsChainOf : Chain → List Entry → Type 0
 IsChainOf chain entries = IsChain chain.slots.items chain.first chain.last entries
 
-abbrev pub listed_from : ℕ → (Option ℕ → List Entry) → Option Slot → List Entry
-listed_from id rest None = []
-listed_from id rest (Some s) = entry_in id s ∷ rest s.next
+abbrev pub first_entries_at : ℕ → (Option ℕ → List Entry) → Option Slot → List Entry
+first_entries_at id rest None = []
+first_entries_at id rest (Some s) = entry_in id s ∷ rest s.next
 
 -- The first entries of a chain from an id on, at most so many.
-abbrev pub listed : List (Option Slot) → ℕ → Option ℕ → List Entry
-listed slots zero id = []
-listed slots (suc n) None = []
-listed slots (suc n) (Some id) = listed_from id (listed slots n) (slot_at slots id)
+abbrev pub first_entries : List (Option Slot) → ℕ → Option ℕ → List Entry
+first_entries slots zero id = []
+first_entries slots (suc n) None = []
+first_entries slots (suc n) (Some id) = first_entries_at id (first_entries slots n) (slot_at slots id)
 
 abbrev pub entries_of : Chain → List Entry
-entries_of chain = listed chain.slots.items (length chain.slots.items) chain.first
+entries_of chain = first_entries chain.slots.items (length chain.slots.items) chain.first
 
-abbrev pub mapped : (Slot → Slot) → Option Slot → Option Slot
-mapped f None = None
-mapped f (Some s) = Some (f s)
+abbrev pub slot_with : (Slot → Slot) → Option Slot → Option Slot
+slot_with f None = None
+slot_with f (Some s) = Some (f s)
 
 abbrev pub to_next : Option ℕ → Slot → Slot
 to_next next s = record { depth = s.depth; node = s.node; previous = s.previous; next = next }
@@ -76,17 +76,17 @@ abbrev pub to_node : NewNode → Slot → Slot
 to_node node s = record { depth = s.depth; node = node; previous = s.previous; next = s.next }
 
 -- One level higher.
-abbrev pub lifted : Slot → Slot
-lifted s = record { depth = s.depth - 1; node = s.node; previous = s.previous; next = s.next }
+abbrev pub slot_above : Slot → Slot
+slot_above s = record { depth = s.depth - 1; node = s.node; previous = s.previous; next = s.next }
 
 -- The slots with another link of one of them.
-abbrev pub nexted : Option ℕ → Option ℕ → (ℕ → Option Slot) → ℕ → Option Slot
-nexted None next slots i = slots i
-nexted (Some id) next slots i = if i == id then mapped (to_next next) (slots i) else slots i
+abbrev pub with_next : Option ℕ → Option ℕ → (ℕ → Option Slot) → ℕ → Option Slot
+with_next None next slots i = slots i
+with_next (Some id) next slots i = if i == id then slot_with (to_next next) (slots i) else slots i
 
-abbrev pub previoused : Option ℕ → Option ℕ → (ℕ → Option Slot) → ℕ → Option Slot
-previoused None previous slots i = slots i
-previoused (Some id) previous slots i = if i == id then mapped (to_previous previous) (slots i) else slots i
+abbrev pub with_previous : Option ℕ → Option ℕ → (ℕ → Option Slot) → ℕ → Option Slot
+with_previous None previous slots i = slots i
+with_previous (Some id) previous slots i = if i == id then slot_with (to_previous previous) (slots i) else slots i
 
 -- The first and the last id, with another one where the link is not a slot's.
 abbrev pub end_set : Option ℕ → Option ℕ → Option ℕ → Option ℕ

@@ -44,8 +44,8 @@ pub record IsSpan (entries : List Entry) (at end depth id : ℕ) : Type 0 where
   pub past : end ≡ at + 1 + prefix_len (λ (e : Entry). nat_lt depth e.depth) after
 
 -- An entry `up` levels higher and then `down` levels deeper.
-abbrev pub shifted : ℕ → ℕ → Entry → Entry
-shifted up down e = record { depth = e.depth - up + down; id = e.id; node = e.node }
+abbrev pub shifted_entry : ℕ → ℕ → Entry → Entry
+shifted_entry up down e = record { depth = e.depth - up + down; id = e.id; node = e.node }
 
 -- The entry is at least `up` deep, and `down` levels deeper fit a number.
 abbrev pub CanShift : ℕ → ℕ → Entry → Type 0

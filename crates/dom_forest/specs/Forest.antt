@@ -21,9 +21,9 @@ count empty = 0
 count (tree i content kids later) = 1 + count kids + count later
 
 -- One forest and then the other, as siblings.
-abbrev pub joined : Forest → Forest → Forest
-joined empty after = after
-joined (tree i content kids later) after = tree i content kids (joined later after)
+abbrev pub joined_forests : Forest → Forest → Forest
+joined_forests empty after = after
+joined_forests (tree i content kids later) after = tree i content kids (joined_forests later after)
 
 -- The first forest that is not empty.
 abbrev pub or_else : Forest → Forest → Forest

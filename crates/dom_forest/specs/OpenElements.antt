@@ -4,13 +4,13 @@ use Rattle.dom_forest.specs.Documents.{NodeLevels, all_levels, levels_after, lev
 use Rattle.dom_forest.specs.declared.document.DocPart.{DocPart}
 use Rattle.dom_forest.specs.declared.printing.Open.{Open}
 use Rattle.html_names.specs.Printing.{end_tag}
-use Rattle.dom_forest.specs.Printing.{printed, siblings_bytes}
+use Rattle.dom_forest.specs.Printing.{printed_node, siblings_bytes}
 
 -- What is printed yet where elements are open, the innermost first, and these siblings follow, after a text or not.
 abbrev pub bytes_to_end : Bool → List Open → NodeLevels → List ℕ
-bytes_to_end after_text [] levels = siblings_bytes after_text (map printed (all_levels levels.first levels.rest))
+bytes_to_end after_text [] levels = siblings_bytes after_text (map printed_node (all_levels levels.first levels.rest))
 bytes_to_end after_text (e ∷ es) levels =
-    siblings_bytes after_text (map printed levels.first) ++ (end_tag e.name.now ++ bytes_to_end false es (levels_after levels.rest))
+    siblings_bytes after_text (map printed_node levels.first) ++ (end_tag e.name.now ++ bytes_to_end false es (levels_after levels.rest))
 
 -- The same where the innermost is the last one, and parts follow.
 abbrev pub left_bytes : Bool → List DocPart → List Open → List ℕ

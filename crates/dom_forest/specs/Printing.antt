@@ -36,9 +36,9 @@ abbrev pub printed_step : DocNode-F Printed → Printed
 printed_step (Element name attributes kids) = record { is_text = false; bytes = λ _. element_bytes name attributes kids }
 printed_step (Text text) = record { is_text = true; bytes = λ after_text. text_bytes after_text text }
 
-abbrev pub printed : DocNode → Printed
-printed = fold-DocNode Printed printed_step
+abbrev pub printed_node : DocNode → Printed
+printed_node = fold-DocNode Printed printed_step
 
 -- The bytes of a document.
 abbrev pub printed_nodes : List DocNode → List ℕ
-printed_nodes nodes = siblings_bytes false (map printed nodes)
+printed_nodes nodes = siblings_bytes false (map printed_node nodes)

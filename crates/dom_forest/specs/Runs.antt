@@ -4,9 +4,9 @@ use Rattle.dom_forest.specs.declared.entry.Entry.{Entry}
 use Rattle.dom_forest.specs.Boundary.{searched_past, turn_of}
 
 -- A run over entries that keeps an id.
-abbrev pub kept : (Entry → Option ℕ → Option ℕ) → Option ℕ → List Entry → Option ℕ
-kept step id [] = id
-kept step id (e ∷ es) = kept step (step e id) es
+abbrev pub id_after : (Entry → Option ℕ → Option ℕ) → Option ℕ → List Entry → Option ℕ
+id_after step id [] = id
+id_after step id (e ∷ es) = id_after step (step e id) es
 
 -- The parent: the last entry that is less deep.
 abbrev pub parent_step : ℕ → Entry → Option ℕ → Option ℕ

@@ -17,6 +17,6 @@ shown_node (element_seen name attributes) = Element name.now attributes.now
 shown_node (text_seen text) = Text text.now
 shown_node (comment_seen mark) = Comment mark
 
-abbrev pub shown : Option DomNode → Option NewNode
-shown None = None
-shown (Some node) = Some (shown_node node)
+abbrev pub shown_option : Option DomNode → Option NewNode
+shown_option None = None
+shown_option (Some node) = Some (shown_node node)

@@ -47,6 +47,6 @@ first_place [] = None
 first_place (id ∷ ids) = Some id
 
 -- The ids with another one at the end, where nothing comes after it.
-abbrev pub noted : Option ℕ → ℕ → List ℕ → List ℕ
-noted None id ids = ids ++ id ∷ []
-noted (Some next) id ids = ids
+abbrev pub with_last_id : Option ℕ → ℕ → List ℕ → List ℕ
+with_last_id None id ids = ids ++ id ∷ []
+with_last_id (Some next) id ids = ids

@@ -7,33 +7,33 @@ use Rattle.dom_forest.specs.contracts.node.NewNode.{the_row}
 use Rattle.dom_forest.specs.Edits.{DomState}
 use Rattle.dom_forest.specs.Forest.{Forest, empty, tree}
 
-abbrev pub stored : Forest → List (Option (ℕ × NewNode)) → List (Option (ℕ × NewNode))
-stored empty more = None ∷ more
-stored (tree i content kids later) more = Some (i, content) ∷ stored kids (stored later more)
+abbrev pub stored_forest : Forest → List (Option (ℕ × NewNode)) → List (Option (ℕ × NewNode))
+stored_forest empty more = None ∷ more
+stored_forest (tree i content kids later) more = Some (i, content) ∷ stored_forest kids (stored_forest later more)
 
-abbrev pub grown : ℕ → NewNode → List Forest → List Forest
-grown i content [] = []
-grown i content (kids ∷ []) = kids ∷ []
-grown i content (kids ∷ (later ∷ rest)) = tree i content kids later ∷ rest
+abbrev pub with_tree : ℕ → NewNode → List Forest → List Forest
+with_tree i content [] = []
+with_tree i content (kids ∷ []) = kids ∷ []
+with_tree i content (kids ∷ (later ∷ rest)) = tree i content kids later ∷ rest
 
 abbrev pub rebuilt : List (Option (ℕ × NewNode)) → List Forest
 rebuilt [] = []
 rebuilt (None ∷ rest) = empty ∷ rebuilt rest
-rebuilt (Some node ∷ rest) = grown node.0 node.1 (rebuilt rest)
+rebuilt (Some node ∷ rest) = with_tree node.0 node.1 (rebuilt rest)
 
 abbrev pub first_forest : List Forest → Forest
 first_forest [] = empty
 first_forest (forest ∷ rest) = forest
 
-pub rebuilt-stored : (forest : Forest) (more : List (Option (ℕ × NewNode))) → rebuilt (stored forest more) ≡ forest ∷ rebuilt more
+pub rebuilt-stored : (forest : Forest) (more : List (Option (ℕ × NewNode))) → rebuilt (stored_forest forest more) ≡ forest ∷ rebuilt more
 rebuilt-stored empty more = refl
 rebuilt-stored (tree i content kids later) more =
-    ap (grown i content) (rebuilt-stored kids (stored later more) ∙ ap (λ rest. kids ∷ rest) (rebuilt-stored later more))
+    ap (with_tree i content) (rebuilt-stored kids (stored_forest later more) ∙ ap (λ rest. kids ∷ rest) (rebuilt-stored later more))
 
 abbrev pub forest_code : Coded Forest
 forest_code =
     code_by (List (Option (ℕ × NewNode))) (coded_list (coded_option (coded× coded_ℕ the_row.coded)))
-    (λ forest. stored forest []) (λ list. first_forest (rebuilt list)) (λ forest. ap first_forest (rebuilt-stored forest []))
+    (λ forest. stored_forest forest []) (λ list. first_forest (rebuilt list)) (λ forest. ap first_forest (rebuilt-stored forest []))
 
 abbrev pub numbered_code : Coded DomState
 numbered_code =

@@ -4,8 +4,8 @@
 ghost use Rattle.std.specs.Prelude.{◌≡◌, ◌≢◌, ℕ, List, ◌∷◌, ◌++◌, ◌+◌, ◌<◌, ◌≤◌, ◌==◌, if◌then◌else◌, IfNone, IfOk, IfSome, None, Option, Some, [], OnErr, length, map, vec_len, vec_capacity};
 ghost use Rattle.std.specs.Option.{option_copied};
 ghost use Rattle.dom_forest.specs.declared.entry.Entry.{Entry};
-ghost use Rattle.dom_forest.specs.Chain.{IsChainOf, IsSlotOf, end_set, entries_of, entry_times, head_id, last_id, mapped, nexted, previoused, previous_at, slot_at, slot_for, to_next, to_node, to_previous, lifted};
-ghost use Rattle.dom_forest.specs.Flat.{shifted};
+ghost use Rattle.dom_forest.specs.Chain.{IsChainOf, IsSlotOf, end_set, entries_of, entry_times, head_id, last_id, slot_with, with_next, with_previous, previous_at, slot_at, slot_for, to_next, to_node, to_previous, slot_above};
+ghost use Rattle.dom_forest.specs.Flat.{shifted_entry};
 
 use crate::node::NewNode;
 use fizz_text::OutOfMemory;
@@ -31,7 +31,7 @@ pub(crate) struct Chain {
 }
 
 fn relink_next(slot: &mut Option<Slot>, next: Option<usize>)
-    ensures { slot.new ≡ mapped (to_next next) slot.old }
+    ensures { slot.new ≡ slot_with (to_next next) slot.old }
 {
     if let Some(slot) = slot {
         slot.next = next;
@@ -39,7 +39,7 @@ fn relink_next(slot: &mut Option<Slot>, next: Option<usize>)
 }
 
 fn relink_previous(slot: &mut Option<Slot>, previous: Option<usize>)
-    ensures { slot.new ≡ mapped (to_previous previous) slot.old }
+    ensures { slot.new ≡ slot_with (to_previous previous) slot.old }
 {
     if let Some(slot) = slot {
         slot.previous = previous;
@@ -47,7 +47,8 @@ fn relink_previous(slot: &mut Option<Slot>, previous: Option<usize>)
 }
 
 fn link_next(slots: &mut Vec<Option<Slot>>, id: usize, next: Option<usize>)
-    ensures slots { (i : ℕ) → slot_at slots.new.items i ≡ nexted (Some id) next (slot_at slots.old.items) i }
+    ensures slots { (i : ℕ) →
+        slot_at slots.new.items i ≡ with_next (Some id) next (slot_at slots.old.items) i }
     ensures len { length slots.new.items ≡ length slots.old.items }
     ensures room { vec_capacity slots.new ≡ vec_capacity slots.old }
 {
@@ -57,7 +58,8 @@ fn link_next(slots: &mut Vec<Option<Slot>>, id: usize, next: Option<usize>)
 }
 
 fn link_previous(slots: &mut Vec<Option<Slot>>, id: usize, previous: Option<usize>)
-    ensures slots { (i : ℕ) → slot_at slots.new.items i ≡ previoused (Some id) previous (slot_at slots.old.items) i }
+    ensures slots { (i : ℕ) →
+        slot_at slots.new.items i ≡ with_previous (Some id) previous (slot_at slots.old.items) i }
     ensures len { length slots.new.items ≡ length slots.old.items }
     ensures room { vec_capacity slots.new ≡ vec_capacity slots.old }
 {
@@ -68,7 +70,8 @@ fn link_previous(slots: &mut Vec<Option<Slot>>, id: usize, previous: Option<usiz
 
 /// Sets what comes after a node, or the first node for `None`.
 fn set_next(chain: &mut Chain, id: Option<usize>, next: Option<usize>)
-    ensures slots { (i : ℕ) → slot_at chain.new.slots.items i ≡ nexted id next (slot_at chain.old.slots.items) i }
+    ensures slots { (i : ℕ) →
+        slot_at chain.new.slots.items i ≡ with_next id next (slot_at chain.old.slots.items) i }
     ensures len { length chain.new.slots.items ≡ length chain.old.slots.items }
     ensures room { vec_capacity chain.new.slots ≡ vec_capacity chain.old.slots }
     ensures first { chain.new.first ≡ end_set id next chain.old.first }
@@ -82,7 +85,9 @@ fn set_next(chain: &mut Chain, id: Option<usize>, next: Option<usize>)
 
 /// Sets what comes before a node, or the last node for `None`.
 fn set_previous(chain: &mut Chain, id: Option<usize>, previous: Option<usize>)
-    ensures slots { (i : ℕ) → slot_at chain.new.slots.items i ≡ previoused id previous (slot_at chain.old.slots.items) i }
+    ensures slots { (i : ℕ) →
+        slot_at chain.new.slots.items i
+        ≡ with_previous id previous (slot_at chain.old.slots.items) i }
     ensures len { length chain.new.slots.items ≡ length chain.old.slots.items }
     ensures room { vec_capacity chain.new.slots ≡ vec_capacity chain.old.slots }
     ensures first { chain.new.first ≡ chain.old.first }
@@ -127,7 +132,8 @@ fn previous_at(chain: &Chain, next: Option<usize>) -> Option<usize>
 
 fn take_slot(slots: &mut Vec<Option<Slot>>, id: usize) -> Option<Slot>
     ensures slot { result ≡ slot_at slots.old.items id }
-    ensures slots { (i : ℕ) → slot_at slots.new.items i ≡ (if i == id then None else slot_at slots.old.items i) }
+    ensures slots { (i : ℕ) →
+        slot_at slots.new.items i ≡ (if i == id then None else slot_at slots.old.items i) }
     ensures len { length slots.new.items ≡ length slots.old.items }
     ensures room { vec_capacity slots.new ≡ vec_capacity slots.old }
 {
@@ -140,8 +146,11 @@ fn take_slot(slots: &mut Vec<Option<Slot>>, id: usize) -> Option<Slot>
 /// Puts a new node before another one, or last for `None`.
 pub(crate) fn put(chain: &mut Chain, next: Option<usize>, depth: usize, node: NewNode)
     requires { vec_len chain.old.slots < vec_capacity chain.old.slots }
-    ensures chain { (before after : List Entry) → IsChainOf chain.old (before ++ after) → next ≡ head_id after None
-        → IsChainOf chain.new (before ++ record { depth = depth; id = length chain.old.slots.items; node = node } ∷ after) }
+    ensures chain { (before after : List Entry) → IsChainOf chain.old (before ++ after) →
+        next ≡ head_id after None
+        → IsChainOf chain.new
+        (before ++ record { depth = depth; id = length chain.old.slots.items; node = node }
+        ∷ after) }
     ensures len { length chain.new.slots.items ≡ length chain.old.slots.items + 1 }
     ensures room { vec_capacity chain.old.slots ≤ vec_capacity chain.new.slots }
 {
@@ -162,9 +171,11 @@ pub(crate) fn put(chain: &mut Chain, next: Option<usize>, depth: usize, node: Ne
 
 /// Takes a node out.
 pub(crate) fn take(chain: &mut Chain, id: usize) -> Option<Slot>
-    ensures chain { (before after : List Entry) (e : Entry) → IsChainOf chain.old (before ++ e ∷ after) → e.id ≡ id
+    ensures chain { (before after : List Entry) (e : Entry) →
+        IsChainOf chain.old (before ++ e ∷ after) → e.id ≡ id
         → IsChainOf chain.new (before ++ after) }
-    ensures slot { (before after : List Entry) (e : Entry) → IsChainOf chain.old (before ++ e ∷ after) → e.id ≡ id
+    ensures slot { (before after : List Entry) (e : Entry) →
+        IsChainOf chain.old (before ++ e ∷ after) → e.id ≡ id
         → result ≡ Some (slot_for e (last_id None before) (head_id after None)) }
     ensures len { length chain.new.slots.items ≡ length chain.old.slots.items }
     ensures room { vec_capacity chain.new.slots ≡ vec_capacity chain.old.slots }
@@ -190,7 +201,7 @@ pub(crate) fn slot_of(chain: &Chain, id: usize) -> Option<&Slot>
 }
 
 fn refill(slot: &mut Option<Slot>, node: NewNode)
-    ensures { slot.new ≡ mapped (to_node node) slot.old }
+    ensures { slot.new ≡ slot_with (to_node node) slot.old }
 {
     if let Some(slot) = slot {
         slot.node = node;
@@ -199,8 +210,10 @@ fn refill(slot: &mut Option<Slot>, node: NewNode)
 
 /// Gives a node another content.
 pub(crate) fn set_node(chain: &mut Chain, id: usize, node: NewNode)
-    ensures chain { (before after : List Entry) (e : Entry) → IsChainOf chain.old (before ++ e ∷ after) → e.id ≡ id
-        → IsChainOf chain.new (before ++ record { depth = e.depth; id = e.id; node = node } ∷ after) }
+    ensures chain { (before after : List Entry) (e : Entry) →
+        IsChainOf chain.old (before ++ e ∷ after) → e.id ≡ id
+        → IsChainOf chain.new
+        (before ++ record { depth = e.depth; id = e.id; node = node } ∷ after) }
     ensures len { length chain.new.slots.items ≡ length chain.old.slots.items }
 {
     if let Some(slot) = chain.slots.get_mut(id) {
@@ -209,7 +222,7 @@ pub(crate) fn set_node(chain: &mut Chain, id: usize, node: NewNode)
 }
 
 fn lift(slot: &mut Option<Slot>)
-    ensures { slot.new ≡ mapped lifted slot.old }
+    ensures { slot.new ≡ slot_with slot_above slot.old }
 {
     if let Some(slot) = slot {
         slot.depth = slot.depth.saturating_sub(1);
@@ -217,7 +230,7 @@ fn lift(slot: &mut Option<Slot>)
 }
 
 fn lift_all(slots: &mut [Option<Slot>])
-    ensures { slots.new ≡ map (mapped lifted) slots.old }
+    ensures { slots.new ≡ map (slot_with slot_above) slots.old }
 {
     for slot in slots.iter_mut() {
         lift(slot);
@@ -225,14 +238,15 @@ fn lift_all(slots: &mut [Option<Slot>])
 }
 
 fn lift_slots(slots: &mut Vec<Option<Slot>>)
-    ensures { slots.new.items ≡ map (mapped lifted) slots.old.items }
+    ensures { slots.new.items ≡ map (slot_with slot_above) slots.old.items }
 {
     lift_all(slots);
 }
 
 /// Moves all nodes one level higher.
 pub(crate) fn raise(chain: &mut Chain)
-    ensures chain { (entries : List Entry) → IsChainOf chain.old entries → IsChainOf chain.new (map (shifted 1 0) entries) }
+    ensures chain { (entries : List Entry) → IsChainOf chain.old entries →
+        IsChainOf chain.new (map (shifted_entry 1 0) entries) }
     ensures len { length chain.new.slots.items ≡ length chain.old.slots.items }
 {
     lift_slots(&mut chain.slots);

@@ -3,12 +3,12 @@
 ghost use Rattle.std.specs.Prelude.{◌≡◌, ◌↔◌, IfErr, IfOk, IfSome, IsNone, IsTrue, OnErr, OnOk, Option, Some, ℕ};
 ghost use Rattle.dom_forest.specs.declared.node.NodeId.{NodeId};
 ghost use Rattle.dom_forest.specs.Boundary.{end_of_boundary};
-ghost use Rattle.dom_forest.specs.Edits.{IsNumbered, DomState, appended, inner_of, nothing, part_of, with_before, with_content, with_digest_at, without};
+ghost use Rattle.dom_forest.specs.Edits.{IsNumbered, DomState, with_appended, inner_of, nothing, part_of, with_before, with_content, with_digest_at, without_node};
 ghost use Rattle.dom_forest.specs.Refusals.{IsRefusal};
 ghost use Rattle.dom_forest.specs.declared.node.NewNode.TheVariants.{Comment};
 ghost use Rattle.dom_forest.specs.Forest.{IsComment, IsElement, IsOneElement, IsThere, MayHaveChildren, times, content_of, first_of, from, kids_of, later_of, next_of, parent_of, previous_of};
 ghost use Rattle.dom_forest.specs.Ids.{element_with};
-ghost use Rattle.dom_forest.specs.Seen.{number, shown, shown_node};
+ghost use Rattle.dom_forest.specs.Seen.{number, shown_option, shown_node};
 
 use crate::chain::{self, Chain};
 use crate::digest::digest_set;
@@ -91,7 +91,7 @@ impl Dom {
     pub fn append(&mut self, parent: Option<NodeId>, node: NewNode) -> Result<NodeId, OutOfMemory>
         requires { MayHaveChildren parent self.old.forest }
         ensures id { IfOk result (λ id. id.0 ≡ self.old.next) }
-        ensures ok { OnOk result (self.new ≡ appended parent node self.old) }
+        ensures ok { OnOk result (self.new ≡ with_appended parent node self.old) }
         ensures err { OnErr result (self.new ≡ self.old) }
         ensures numbered { IsNumbered self.new }
     {
@@ -100,7 +100,7 @@ impl Dom {
 
     /// The content of a node, or `None` exactly where it is not there.
     pub fn look(&self, node: NodeId) -> Option<DomNode<'_>>
-        ensures content { shown result ≡ content_of node.0 self.now.forest }
+        ensures content { shown_option result ≡ content_of node.0 self.now.forest }
         // each id stands once, and below the next one
         ensures numbered { IsNumbered self.now }
     {
@@ -188,7 +188,7 @@ impl Dom {
     /// node is not there. A refusal changes nothing.
     pub fn remove(&mut self, node: NodeId) -> Result<Option<Dom>, OutOfMemory>
         ensures there { IfOk result (λ part. IsNone part ↔ (times node.0 self.old.forest ≡ 0)) }
-        ensures rest { OnOk result (self.new ≡ without node.0 self.old) }
+        ensures rest { OnOk result (self.new ≡ without_node node.0 self.old) }
         ensures part { IfOk result (λ part. IfSome part (λ dom. dom ≡ part_of node.0 self.old)) }
         ensures err { OnErr result (self.new ≡ self.old) }
     {
@@ -259,8 +259,10 @@ fn seen(node: &NewNode) -> DomNode<'_>
 /// A walk over a document by `first` and `next` meets its forest: from a node's first child on stand its children, and
 /// from its next sibling on its later siblings.
 pub fn laws_of_walks()
-    ensures kids { (dom : DomState) → IsNumbered dom → (parent : Option NodeId) (child : ℕ) → first_of parent dom.forest ≡ Some child
+    ensures kids { (dom : DomState) → IsNumbered dom → (parent : Option NodeId) (child : ℕ) →
+        first_of parent dom.forest ≡ Some child
         → from child dom.forest ≡ kids_of parent dom.forest }
-    ensures later { (dom : DomState) → IsNumbered dom → (node next : ℕ) → next_of node dom.forest ≡ Some next
+    ensures later { (dom : DomState) → IsNumbered dom → (node next : ℕ) →
+        next_of node dom.forest ≡ Some next
         → from next dom.forest ≡ later_of node dom.forest }
 {}

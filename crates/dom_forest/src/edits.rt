@@ -3,9 +3,9 @@
 ghost use Rattle.std.specs.Prelude.{◌≡◌, ℕ, List, ◌∷◌, [], ◌++◌, ◌+◌, ◌-◌, ◌≤◌, ◌<◌, All, IfNone, IfOk, IfSome, None, OnErr, OnOk, OnSome, Option, Some, drop, length, map, reverse, vec_len, vec_capacity};
 ghost use Rattle.dom_forest.specs.declared.entry.Entry.{Entry};
 ghost use Rattle.dom_forest.specs.Chain.{IsChainOf, IsSlotOf, entries_of, entry_in, head_id, rest_from, up_to};
-ghost use Rattle.dom_forest.specs.Edits.{changed, renumbered, with_last};
-ghost use Rattle.dom_forest.specs.Flat.{CanShift, IsEndOfKids, IsPart, IsThereOrTop, forest_of, renumbered_entries, shifted};
-ghost use Rattle.dom_forest.specs.Forest.{IsOneElement, IsThere, count, empty, first_kids, first_tree, from, joined, times, tree};
+ghost use Rattle.dom_forest.specs.Edits.{with_change, numbered_from, with_last};
+ghost use Rattle.dom_forest.specs.Flat.{CanShift, IsEndOfKids, IsPart, IsThereOrTop, forest_of, renumbered_entries, shifted_entry};
+ghost use Rattle.dom_forest.specs.Forest.{IsOneElement, IsThere, count, empty, first_kids, first_tree, from, joined_forests, times, tree};
 ghost use Rattle.dom_forest.specs.Spine.{IsHeld, IsSpine, IsSpineOf};
 
 use crate::chain::{Chain, put, raise, set_node, slot_of, take};
@@ -20,8 +20,11 @@ pub(crate) fn set_content(chain: &mut Chain, id: usize, node: NewNode)
     requires there { IsThere id (forest_of (entries_of chain.old)) }
     ensures held { IsHeld chain.new }
     ensures next { length chain.new.slots.items ≡ length chain.old.slots.items }
-    ensures forest { forest_of (entries_of chain.new) ≡ changed id (λ content kids later. tree id node kids later) (forest_of (entries_of chain.old)) }
-    ensures spine { (next : ℕ) (spine : List ℕ) → IsSpineOf (entries_of chain.old) next spine → IsSpineOf (entries_of chain.new) next spine }
+    ensures forest { forest_of (entries_of chain.new)
+        ≡ with_change id (λ content kids later. tree id node kids later)
+        (forest_of (entries_of chain.old)) }
+    ensures spine { (next : ℕ) (spine : List ℕ) → IsSpineOf (entries_of chain.old) next spine →
+        IsSpineOf (entries_of chain.new) next spine }
 {
     set_node(chain, id, node);
 }
@@ -35,10 +38,12 @@ fn end_of_kids(
 ) -> (Option<usize>, usize)
     requires held { IsHeld chain.now }
     requires there { IsThereOrTop parent (forest_of (entries_of chain.now)) }
-    requires spine { IsSpineOf (entries_of chain.now) (length chain.now.slots.items) spine.old.items }
+    requires spine { IsSpineOf (entries_of chain.now)
+        (length chain.now.slots.items) spine.old.items }
     ensures end { (place : ℕ) × IsEndOfKids (entries_of chain.now) parent place result.1
         × (result.0 ≡ head_id (drop place (entries_of chain.now)) None) }
-    ensures spine { IsSpine (entries_of chain.now) (length chain.now.slots.items) (reverse spine.new.items) result.1 }
+    ensures spine { IsSpine (entries_of chain.now) (length chain.now.slots.items)
+        (reverse spine.new.items) result.1 }
 {
     let Some(parent) = parent else {
         spine.clear();
@@ -60,14 +65,19 @@ pub(crate) fn append_node(
 ) -> Result<NodeId, OutOfMemory>
     requires held { IsHeld chain.old }
     requires there { IsThereOrTop parent (forest_of (entries_of chain.old)) }
-    requires spine { IsSpineOf (entries_of chain.old) (length chain.old.slots.items) spine.old.items }
+    requires spine { IsSpineOf (entries_of chain.old)
+        (length chain.old.slots.items) spine.old.items }
     ensures id { IfOk result (λ id. id.0 ≡ length chain.old.slots.items) }
     ensures next { OnOk result (length chain.new.slots.items ≡ length chain.old.slots.items + 1) }
     ensures held { IsHeld chain.new }
-    ensures spine { IsSpineOf (entries_of chain.new) (length chain.new.slots.items) spine.new.items }
+    ensures spine { IsSpineOf (entries_of chain.new)
+        (length chain.new.slots.items) spine.new.items }
     ensures forest { OnOk result (forest_of (entries_of chain.new)
-        ≡ with_last parent (tree (length chain.old.slots.items) node empty empty) (forest_of (entries_of chain.old))) }
-    ensures err { OnErr result ((entries_of chain.new ≡ entries_of chain.old) × (length chain.new.slots.items ≡ length chain.old.slots.items)) }
+        ≡ with_last parent (tree (length chain.old.slots.items) node empty empty)
+        (forest_of (entries_of chain.old))) }
+    ensures err { OnErr result
+        ((entries_of chain.new ≡ entries_of chain.old)
+        × (length chain.new.slots.items ≡ length chain.old.slots.items)) }
 {
     let (next, depth) = end_of_kids(chain, spine, parent);
     spine.reserve(1)?;
@@ -89,11 +99,14 @@ fn move_one(
     down: usize,
 ) -> Option<usize>
     requires { vec_len chain.old.slots < vec_capacity chain.old.slots }
-    ensures part { (before after : List Entry) (e : Entry) → IsChainOf part.old (before ++ e ∷ after) → id ≡ Some e.id
+    ensures part { (before after : List Entry) (e : Entry) →
+        IsChainOf part.old (before ++ e ∷ after) → id ≡ Some e.id
         → IsChainOf part.new (before ++ after) × (result ≡ head_id after None) }
-    ensures chain { (before after : List Entry) (e : Entry) → IsChainOf part.old (before ++ e ∷ after) → id ≡ Some e.id → CanShift up down e
+    ensures chain { (before after : List Entry) (e : Entry) →
+        IsChainOf part.old (before ++ e ∷ after) → id ≡ Some e.id → CanShift up down e
         → (front back : List Entry) → IsChainOf chain.old (front ++ back) → next ≡ head_id back None
-        → IsChainOf chain.new (front ++ record { depth = e.depth - up + down; id = length chain.old.slots.items; node = e.node } ∷ back)
+        → IsChainOf chain.new
+        (front ++ record { depth = e.depth - up + down; id = length chain.old.slots.items; node = e.node } ∷ back)
         × (length chain.new.slots.items ≡ length chain.old.slots.items + 1) }
     ensures len { length chain.new.slots.items ≤ length chain.old.slots.items + 1 }
     ensures room { vec_capacity chain.old.slots ≤ vec_capacity chain.new.slots }
@@ -121,11 +134,18 @@ pub(crate) fn move_run(
     down: usize,
 )
     requires { vec_len chain.old.slots + many ≤ vec_capacity chain.old.slots }
-    ensures part { (before run after : List Entry) → IsChainOf part.old (before ++ (run ++ after)) → first ≡ head_id (run ++ after) None → length run ≡ many
+    ensures part { (before run after : List Entry) →
+        IsChainOf part.old (before ++ (run ++ after)) → first ≡ head_id (run ++ after) None →
+        length run ≡ many
         → IsChainOf part.new (before ++ after) }
-    ensures chain { (before run after : List Entry) → IsChainOf part.old (before ++ (run ++ after)) → first ≡ head_id (run ++ after) None → length run ≡ many
-        → All (CanShift up down) run → (front back : List Entry) → IsChainOf chain.old (front ++ back) → next ≡ head_id back None
-        → IsChainOf chain.new (front ++ (renumbered_entries (length chain.old.slots.items) (map (shifted up down) run) ++ back))
+    ensures chain { (before run after : List Entry) →
+        IsChainOf part.old (before ++ (run ++ after)) → first ≡ head_id (run ++ after) None →
+        length run ≡ many
+        → All (CanShift up down) run → (front back : List Entry) →
+        IsChainOf chain.old (front ++ back) → next ≡ head_id back None
+        → IsChainOf chain.new
+        (front ++ (renumbered_entries (length chain.old.slots.items)
+        (map (shifted_entry up down) run) ++ back))
         × (length chain.new.slots.items ≡ length chain.old.slots.items + many) }
     ensures ids { length part.new.slots.items ≡ length part.old.slots.items }
 {
@@ -144,11 +164,15 @@ pub(crate) fn take_part(chain: &mut Chain, part: &mut Chain, id: usize, many: us
     requires span { IsPart (entries_of chain.old) id many depth }
     ensures held { IsHeld chain.new }
     ensures next { length chain.new.slots.items ≡ length chain.old.slots.items }
-    ensures rest { forest_of (entries_of chain.new) ≡ changed id (λ content kids later. later) (forest_of (entries_of chain.old)) }
+    ensures rest { forest_of (entries_of chain.new)
+        ≡ with_change id (λ content kids later. later) (forest_of (entries_of chain.old)) }
     ensures part { IsHeld part.new }
-    ensures tree { forest_of (entries_of part.new) ≡ renumbered 0 (first_tree (from id (forest_of (entries_of chain.old)))) }
-    ensures size { length part.new.slots.items ≡ count (first_tree (from id (forest_of (entries_of chain.old)))) }
-    ensures spine { (spine : List ℕ) → IsSpineOf (entries_of chain.old) (length chain.old.slots.items) spine
+    ensures tree { forest_of (entries_of part.new)
+        ≡ numbered_from 0 (first_tree (from id (forest_of (entries_of chain.old)))) }
+    ensures size { length part.new.slots.items
+        ≡ count (first_tree (from id (forest_of (entries_of chain.old)))) }
+    ensures spine { (spine : List ℕ) →
+        IsSpineOf (entries_of chain.old) (length chain.old.slots.items) spine
         → IsSpineOf (entries_of chain.new) (length chain.new.slots.items) spine }
 {
     move_run(chain, part, Some(id), many, None, depth, 0);
@@ -162,10 +186,15 @@ pub(crate) fn put_part(chain: &mut Chain, part: &mut Chain, id: usize, many: usi
     requires room { vec_len chain.old.slots + many ≤ vec_capacity chain.old.slots }
     requires span { (size : ℕ) × IsPart (entries_of chain.old) id size depth }
     ensures held { IsHeld chain.new }
-    ensures next { length chain.new.slots.items ≡ length chain.old.slots.items + count (forest_of (entries_of part.old)) }
+    ensures next { length chain.new.slots.items
+        ≡ length chain.old.slots.items + count (forest_of (entries_of part.old)) }
     ensures forest { forest_of (entries_of chain.new)
-        ≡ changed id (λ content kids later. joined (renumbered (length chain.old.slots.items) (forest_of (entries_of part.old))) (tree id content kids later)) (forest_of (entries_of chain.old)) }
-    ensures spine { (spine : List ℕ) → IsSpineOf (entries_of chain.old) (length chain.old.slots.items) spine
+        ≡ with_change id
+        (λ content kids later. joined_forests
+        (numbered_from (length chain.old.slots.items) (forest_of (entries_of part.old)))
+        (tree id content kids later)) (forest_of (entries_of chain.old)) }
+    ensures spine { (spine : List ℕ) →
+        IsSpineOf (entries_of chain.old) (length chain.old.slots.items) spine
         → IsSpineOf (entries_of chain.new) (length chain.new.slots.items) spine }
 {
     let first = part.first;
@@ -192,7 +221,8 @@ pub(crate) fn drop_root(chain: &mut Chain)
     requires root { IsOneElement (forest_of (entries_of chain.old)) }
     ensures held { IsHeld chain.new }
     ensures next { length chain.new.slots.items ≡ length chain.old.slots.items }
-    ensures forest { forest_of (entries_of chain.new) ≡ first_kids (forest_of (entries_of chain.old)) }
+    ensures forest { forest_of (entries_of chain.new)
+        ≡ first_kids (forest_of (entries_of chain.old)) }
 {
     if let Some(id) = chain.first {
         take(chain, id);

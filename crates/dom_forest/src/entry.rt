@@ -3,7 +3,7 @@
 ghost use Rattle.std.specs.Prelude.{◌≡◌, ◌∷◌, ◌<◌, ◌≤◌, IfNone, IfSome, None, Some, drop, length};
 ghost use Rattle.std.specs.List.{prefix_len};
 ghost use Rattle.dom_forest.specs.Chain.{IsChainOf, entries_of, entry_in, head_id, last_id, rest_from, up_to};
-ghost use Rattle.dom_forest.specs.Runs.{below_at, deeper_id, kept, level_id, parent_step, previous_step};
+ghost use Rattle.dom_forest.specs.Runs.{below_at, deeper_id, id_after, level_id, parent_step, previous_step};
 ghost use Rattle.dom_forest.specs.Walk.{IsDeeper};
 
 use crate::chain::{Chain, Slot, slot_of};
@@ -22,7 +22,8 @@ pub(crate) struct Entry {
 fn deeper_slot(chain: &Chain, id: Option<usize>, depth: usize) -> Option<&Slot>
     requires { IsChainOf chain.now (entries_of chain.now) }
     ensures deeper { IfSome result (λ slot. IsDeeper (entries_of chain.now) id depth slot.now) }
-    ensures not { IfNone result (prefix_len (below_at depth) (rest_from id (entries_of chain.now)) ≡ 0) }
+    ensures not { IfNone result
+        (prefix_len (below_at depth) (rest_from id (entries_of chain.now)) ≡ 0) }
 {
     let Some(id) = id else {
         return None;
@@ -37,8 +38,11 @@ fn deeper_slot(chain: &Chain, id: Option<usize>, depth: usize) -> Option<&Slot>
 pub(crate) fn passed(chain: &Chain, id: Option<usize>, depth: usize) -> (usize, Option<usize>)
     requires { IsChainOf chain.now (entries_of chain.now) }
     ensures count { result.0 ≡ prefix_len (below_at depth) (rest_from id (entries_of chain.now)) }
-    ensures rest { rest_from result.1 (entries_of chain.now) ≡ drop (prefix_len (below_at depth) (rest_from id (entries_of chain.now))) (rest_from id (entries_of chain.now)) }
-    ensures head { id ≡ head_id (rest_from id (entries_of chain.now)) None → result.1 ≡ head_id (rest_from result.1 (entries_of chain.now)) None }
+    ensures rest { rest_from result.1 (entries_of chain.now)
+        ≡ drop (prefix_len (below_at depth) (rest_from id (entries_of chain.now)))
+        (rest_from id (entries_of chain.now)) }
+    ensures head { id ≡ head_id (rest_from id (entries_of chain.now)) None →
+        result.1 ≡ head_id (rest_from result.1 (entries_of chain.now)) None }
 {
     let mut count: usize = 0;
     let mut next = id;
@@ -81,7 +85,7 @@ pub(crate) fn deeper_at(chain: &Chain, id: Option<usize>, depth: usize) -> Optio
 pub(crate) fn parent_before(chain: &Chain, previous: Option<usize>, depth: usize) -> Option<usize>
     requires chain { IsChainOf chain.now (entries_of chain.now) }
     requires there { previous ≡ last_id None (up_to previous (entries_of chain.now)) }
-    ensures { result ≡ kept (parent_step depth) None (up_to previous (entries_of chain.now)) }
+    ensures { result ≡ id_after (parent_step depth) None (up_to previous (entries_of chain.now)) }
 {
     let mut before = previous;
     while let Some(id) = before {
@@ -100,7 +104,7 @@ pub(crate) fn parent_before(chain: &Chain, previous: Option<usize>, depth: usize
 pub(crate) fn previous_before(chain: &Chain, previous: Option<usize>, depth: usize) -> Option<usize>
     requires chain { IsChainOf chain.now (entries_of chain.now) }
     requires there { previous ≡ last_id None (up_to previous (entries_of chain.now)) }
-    ensures { result ≡ kept (previous_step depth) None (up_to previous (entries_of chain.now)) }
+    ensures { result ≡ id_after (previous_step depth) None (up_to previous (entries_of chain.now)) }
 {
     let mut before = previous;
     while let Some(id) = before {

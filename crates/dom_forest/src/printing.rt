@@ -63,7 +63,8 @@ fn print_part<'a>(
     part: &'a DocPart,
     later: &'a [DocPart],
 ) -> Result<Next<'a>, OutOfMemory>
-    ensures bytes { IfOk result (λ next. out.new.items ++ left_bytes next.after_text next.parts.now unfinished.new.items
+    ensures bytes { IfOk result
+        (λ next. out.new.items ++ left_bytes next.after_text next.parts.now unfinished.new.items
         ≡ out.old.items ++ left_bytes after_text (part.now ∷ later.now) unfinished.old.items) }
     ensures fewer { IfOk result (λ next. turns_left next.parts.now unfinished.new.items
         < turns_left (part.now ∷ later.now) unfinished.old.items) }
@@ -101,8 +102,11 @@ fn begin_element<'a>(
     attributes: &Attributes,
     later: &'a [DocPart],
 ) -> Result<&'a [DocPart], OutOfMemory>
-    ensures bytes { (after_text : Bool) → IfOk result (λ parts. out.new.items ++ left_bytes false parts.now unfinished.new.items
-        ≡ out.old.items ++ left_bytes after_text (Element name.now attributes.now ∷ later.now) unfinished.old.items) }
+    ensures bytes { (after_text : Bool) →
+        IfOk result (λ parts. out.new.items ++ left_bytes false parts.now unfinished.new.items
+        ≡ out.old.items
+        ++ left_bytes after_text
+        (Element name.now attributes.now ∷ later.now) unfinished.old.items) }
     ensures fewer { IfOk result (λ parts. turns_left parts.now unfinished.new.items
         < turns_left (Element name.now attributes.now ∷ later.now) unfinished.old.items) }
 {
@@ -143,7 +147,9 @@ fn end_element(
     unfinished: &mut Vec<Open<'_>>,
     after_text: bool,
 ) -> Result<bool, OutOfMemory>
-    ensures bytes { IfOk result (λ after. (later : List DocPart) → out.new.items ++ left_bytes after later unfinished.new.items
+    ensures bytes { IfOk result
+        (λ after. (later : List DocPart) →
+        out.new.items ++ left_bytes after later unfinished.new.items
         ≡ out.old.items ++ left_bytes after_text (End ∷ later) unfinished.old.items) }
     ensures fewer { length unfinished.new.items ≤ length unfinished.old.items }
 {

@@ -4,7 +4,7 @@ ghost use Rattle.std.specs.Prelude.{◌≡◌, ◌↔◌, ◌∷◌, [], ◌+◌
 ghost use Rattle.std.specs.List.{prefix_len};
 ghost use Rattle.dom_forest.specs.Chain.{IsChainOf, IsSlotOf, entries_of, head_id, rest_from, slot_at};
 ghost use Rattle.dom_forest.specs.Runs.{below_at};
-ghost use Rattle.dom_forest.specs.Spine.{IsSpine, IsSpineOf, first_place, is_late, noted};
+ghost use Rattle.dom_forest.specs.Spine.{IsSpine, IsSpineOf, first_place, is_late, with_last_id};
 
 use crate::chain::{Chain, Slot, slot_in};
 use crate::entry::passed;
@@ -20,7 +20,8 @@ fn is_late(slots: &[Option<Slot>], id: usize, depth: usize) -> bool
 
 /// How many nodes at the end are gone or deeper.
 fn count_late(spine: &[usize], slots: &[Option<Slot>], depth: usize) -> usize
-    ensures count { result ≡ prefix_len (λ id. is_late depth (slot_at slots.now id)) (reverse spine.now) }
+    ensures count { result
+        ≡ prefix_len (λ id. is_late depth (slot_at slots.now id)) (reverse spine.now) }
     ensures within { result ≤ length spine.now }
 {
     spine
@@ -33,7 +34,9 @@ fn count_late(spine: &[usize], slots: &[Option<Slot>], depth: usize) -> usize
 /// Leaves the nodes that are not deeper.
 #[tactic(auto, using(crate::proofs::Spines::reverse_take))]
 fn shorten(spine: &mut Vec<usize>, slots: &[Option<Slot>], depth: usize)
-    ensures { reverse spine.new.items ≡ drop (prefix_len (λ id. is_late depth (slot_at slots.now id)) (reverse spine.old.items)) (reverse spine.old.items) }
+    ensures { reverse spine.new.items
+        ≡ drop (prefix_len (λ id. is_late depth (slot_at slots.now id))
+        (reverse spine.old.items)) (reverse spine.old.items) }
 {
     let late = count_late(spine, slots, depth);
     spine.truncate(spine.len() - late);
@@ -58,10 +61,12 @@ pub(crate) fn end_below(
 ) -> Option<usize>
     requires chain { IsChainOf chain.now (entries_of chain.now) }
     requires slot { IsSlotOf (entries_of chain.now) id slot.now }
-    requires spine { IsSpineOf (entries_of chain.now) (length chain.now.slots.items) spine.old.items }
+    requires spine { IsSpineOf (entries_of chain.now)
+        (length chain.now.slots.items) spine.old.items }
     ensures end { let after = rest_from slot.now.next (entries_of chain.now) in
         result ≡ head_id (drop (prefix_len (below_at slot.now.depth) after) after) None }
-    ensures spine { IsSpine (entries_of chain.now) (length chain.now.slots.items) (reverse spine.new.items) (slot.now.depth + 1) }
+    ensures spine { IsSpine (entries_of chain.now) (length chain.now.slots.items)
+        (reverse spine.new.items) (slot.now.depth + 1) }
 {
     shorten(spine, &chain.slots, slot.depth);
     if is_last(spine, id) {
@@ -73,7 +78,7 @@ pub(crate) fn end_below(
 /// Adds a new node, if nothing comes after it.
 pub(crate) fn note_last(spine: &mut Vec<usize>, next: Option<usize>, id: usize)
     requires { vec_len spine.old < vec_capacity spine.old }
-    ensures { spine.new.items ≡ noted next id spine.old.items }
+    ensures { spine.new.items ≡ with_last_id next id spine.old.items }
 {
     match next {
         None => spine.push(id).unwrap(),

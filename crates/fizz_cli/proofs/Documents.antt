@@ -3,7 +3,7 @@ use Rattle.std.proofs.Common.{◌≡◌, ◌≤◌, ℕ, ◌-◌, true, false, L
 use Rattle.std.specs.Str.{IsUtf8}
 use Rattle.std.proofs.lemmas.Option.{same_Some}
 use Rattle.dom_forest.specs.Forest.{Forest}
-use Rattle.dom_forest.specs.Edits.{IsNumbered, nothing, renumbered}
+use Rattle.dom_forest.specs.Edits.{IsNumbered, nothing, numbered_from}
 use Rattle.dom_forest.specs.declared.document.DocNode.{DocNode}
 use Rattle.document_machine.specs.Documents.{LeavesNoRest, Runs, RunsWhole}
 use Rattle.document_machine.specs.Documents as machine
@@ -21,7 +21,7 @@ use Rattle.fizz_cli.proofs.PageForests.{NameLaw, flat_bytes, forest_is_plain, fo
 pub record PageLaws : Type 0 where
   pub names : NameLaw
   pub prints : (prefix : List ℕ) (start : PageState) (forest : Forest) → IsNumbered start.dom → MayPrint forest false (machine.most_open - length start.opened) → (run : Runs prefix start (page_bytes forest) (with_forest forest start)) × LeavesNoRest run
-  pub ids : (prefix : List ℕ) (first : ℕ) (forest : Forest) → view_of prefix (renumbered first forest) ≡ view_of prefix forest
+  pub ids : (prefix : List ℕ) (first : ℕ) (forest : Forest) → view_of prefix (numbered_from first forest) ≡ view_of prefix forest
   pub settled : (prefix : List ℕ) (forest : Forest) → plain.IsPlain prefix true forest → settled_of (view_of prefix forest) ≡ Some (plain.plain_nodes forest)
 
 no_ids : IsNumbered nothing

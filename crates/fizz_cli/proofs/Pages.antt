@@ -10,9 +10,9 @@ use Rattle.dom_forest.specs.declared.document.DocNode.{DocNode}
 use Rattle.document_machine.specs.Running.{PageState, at_first}
 use Rattle.document_machine.specs.Documents.{Runs, RunsWhole}
 use Rattle.document_machine.specs.Faults.{EndsEarly, HasMachineFault}
-use Rattle.document_machine.specs.MachineState.{FeedRefusal, FinishRefusal, HasRun, MachineState, SeesWhole, Stops, fed, nothing_run}
+use Rattle.document_machine.specs.MachineState.{FeedRefusal, FinishRefusal, HasRun, MachineState, SeesWhole, Stops, bytes_fed, nothing_run}
 use Rattle.document_machine.specs.Settled.{is_pending, nodes_of, number_of, settled_of}
-use Rattle.document_machine.specs.Shown.{seen}
+use Rattle.document_machine.specs.Shown.{view_of_parts}
 use Rattle.document_machine.specs.Views.{View, view_of}
 use Rattle.document_machine.specs.declared.fault.MachineFault.{MachineFault}
 use Rattle.document_machine.specs.declared.fault.MachineFault.TheVariants as fault
@@ -72,7 +72,7 @@ pub record Feeding (old : MachineState) (bytes : List ℕ) (machine : MachineSta
   pub split : bytes ≡ front ++ rest
   pub kept : machine.prefix ≡ old.prefix
   pub ran : HasRun [] old → HasRun front machine
-  pub room : fed machine + length rest ≡ fed old + length bytes
+  pub room : bytes_fed machine + length rest ≡ bytes_fed old + length bytes
 
 pub parted : (rest piece more : List ℕ) (n : ℕ) → piece ≡ take n rest → more ≡ drop n rest → rest ≡ piece ++ more
 parted rest piece more n front back = rw (front, back) (sym (take-append-drop n rest))
@@ -81,7 +81,7 @@ pub feeding_begins : (old : MachineState) (bytes : List ℕ) → Feeding old byt
 feeding_begins old bytes = record { front = []; split = refl; kept = refl; ran = λ r. r; room = refl }
 
 pub feeds_on : (old : MachineState) (bytes : List ℕ) (machine new : MachineState) (rest piece more : List ℕ) → Feeding old bytes machine rest → rest ≡ piece ++ more →
-    ((front : List ℕ) → HasRun front machine → HasRun (front ++ piece) new) → fed new ≡ fed machine + length piece → new.prefix ≡ machine.prefix →
+    ((front : List ℕ) → HasRun front machine → HasRun (front ++ piece) new) → bytes_fed new ≡ bytes_fed machine + length piece → new.prefix ≡ machine.prefix →
     Feeding old bytes new more
 feeds_on old bytes machine new rest piece more f parts ran counted kept =
     let sizes : length rest ≡ length piece + length more = ap length parts ∙ length-append piece more in
@@ -148,13 +148,13 @@ seen_whole machine prefix bytes view kept s = record {
 }
 
 -- the settled document of the view is that of the page
-pub shows : (prefix bytes : List ℕ) (view : Seen) (nodes : List DocNode) (out : List ℕ) → SeesWhole (nothing_run prefix) bytes view → settled_of (seen view.parts) ≡ Some nodes →
+pub shows : (prefix bytes : List ℕ) (view : Seen) (nodes : List DocNode) (out : List ℕ) → SeesWhole (nothing_run prefix) bytes view → settled_of (view_of_parts view.parts) ≡ Some nodes →
     out ≡ printed_nodes nodes → ShowsDocument prefix bytes out
 shows prefix bytes view nodes out s settled printed =
     (nodes, record { built = s.built; whole = s.run; settled = ap settled_of (sym s.is) ∙ settled }, printed)
 
 -- what is pending in the view is pending in the page
-pub pending_page : (prefix bytes : List ℕ) (view : Seen) (found : PageFault) → SeesWhole (nothing_run prefix) bytes view → IsPendingView (seen view.parts) found →
+pub pending_page : (prefix bytes : List ℕ) (view : Seen) (found : PageFault) → SeesWhole (nothing_run prefix) bytes view → IsPendingView (view_of_parts view.parts) found →
     RefusesPageBytes prefix bytes found
 pending_page prefix bytes view found s p =
     let q : IsPendingView (view_of prefix s.built.dom.forest) found = subst (λ (v : View). IsPendingView v found) s.is p in

@@ -8,7 +8,7 @@ use Rattle.dom_forest.specs.declared.document.DocNode.{DocNode}
 use Rattle.document_machine.specs.Running.{PageState, at_first}
 use Rattle.document_machine.specs.Documents.{Runs}
 use Rattle.document_machine.specs.Faults.{EndsEarly, HasMachineFault}
-use Rattle.document_machine.specs.Settled.{counted, is_pending}
+use Rattle.document_machine.specs.Settled.{bounded_count, is_pending}
 use Rattle.document_machine.specs.Views.{view_of}
 use Rattle.document_machine.specs.declared.fault.MachineFault.{MachineFault}
 use Rattle.document_machine.specs.declared.fault.MachineFault.TheVariants as fault
@@ -188,7 +188,7 @@ ends_run prefix bytes at e = record { toks = e.toks; rest = e.rest; last = e.las
 
 same_count : (prefix : List ℕ) → MachineLaws prefix → (bytes : List ℕ) (m n : ℕ) → StaysPending prefix bytes m → StaysPending prefix bytes n → m ≡ n
 same_count prefix laws bytes m n p q =
-    p.counts ∙ ap (λ (b : PageState). counted is_pending (view_of prefix b.dom.forest)) (laws.one p.built q.built bytes p.whole.run q.whole.run) ∙ sym q.counts
+    p.counts ∙ ap (λ (b : PageState). bounded_count is_pending (view_of prefix b.dom.forest)) (laws.one p.built q.built bytes p.whole.run q.whole.run) ∙ sym q.counts
 
 same_fault : (x y : Option PageFault) (a b : PageFault) → x ≡ y → x ≡ Option.Some a → y ≡ Option.Some b → a ≡ b
 same_fault x y a b e p q = cc

@@ -2,7 +2,7 @@
 use Rattle.std.specs.Prelude.{◌≡◌, ◌≢◌, ℕ, List}
 use Rattle.document_machine.specs.Running.{at_first}
 use Rattle.document_machine.specs.Faults.{HasMachineFault}
-use Rattle.document_machine.specs.Settled.{counted, is_pending, number_of}
+use Rattle.document_machine.specs.Settled.{bounded_count, is_pending, number_of}
 use Rattle.document_machine.specs.Views.{View}
 use Rattle.document_machine.specs.declared.fault.MachineFault.{MachineFault}
 use Rattle.document_machine.specs.declared.fault.MachineFault.TheVariants as fault
@@ -30,4 +30,4 @@ IsFedCause prefix bytes fault.OutOfMemory = Unit {0}
 -- The fault is that so many boundaries of the view are pending.
 abbrev pub IsPendingView : View → PageFault → Type 0
 IsPendingView view found =
-    (count : ℕ) × (found ≡ StillPending count) × (number_of is_pending view ≢ 0) × (count ≡ counted is_pending view)
+    (count : ℕ) × (found ≡ StillPending count) × (number_of is_pending view ≢ 0) × (count ≡ bounded_count is_pending view)

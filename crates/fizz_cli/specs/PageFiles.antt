@@ -5,7 +5,7 @@ use Rattle.dom_forest.specs.declared.document.DocNode.{DocNode}
 use Rattle.document_machine.specs.Running.{PageState, at_first}
 use Rattle.document_machine.specs.Documents.{RunsWhole}
 use Rattle.document_machine.specs.Faults.{HasMachineFault, EndsEarly}
-use Rattle.document_machine.specs.Settled.{counted, is_pending, number_of}
+use Rattle.document_machine.specs.Settled.{bounded_count, is_pending, number_of}
 use Rattle.document_machine.specs.Views.{view_of}
 use Rattle.document_machine.specs.declared.fault.MachineFault.TheVariants as fault
 use Rattle.fizz_cli.specs.Documents.{IsDocument}
@@ -27,7 +27,7 @@ pub record StaysPending (prefix bytes : List ℕ) (count : ℕ) : Type 0 where
   pub built : PageState
   pub whole : RunsWhole prefix at_first bytes built
   pub some : number_of is_pending (view_of prefix built.dom.forest) ≢ 0
-  pub counts : count ≡ counted is_pending (view_of prefix built.dom.forest)
+  pub counts : count ≡ bounded_count is_pending (view_of prefix built.dom.forest)
 
 -- What the bytes are refused for: a fault of the machine at its place, an end that comes too early, or what is pending.
 abbrev pub RefusesPageBytes : List ℕ → List ℕ → PageFault → Type 0

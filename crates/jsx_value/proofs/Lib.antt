@@ -1,3 +1,9 @@
 mod EntriesLemmas
 mod RunLemmas
 mod LayersLemmas
+mod AgreeLemmas
+mod GrowLemmas
+mod UnfoldLemmas
+mod WeightsLemmas
+mod AppsLemmas
+mod WeighingLemmas

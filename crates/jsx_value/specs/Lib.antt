@@ -8,3 +8,6 @@ pub mod SeenScope
 pub mod SeenPlaces
 pub mod Layers
 pub mod Sizes
+pub mod Expansions
+pub mod Weights
+pub mod Weighing

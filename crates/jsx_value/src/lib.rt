@@ -3,6 +3,7 @@
 
 mod attributes;
 mod component;
+mod expansion_laws;
 mod expression;
 mod open;
 mod page;
@@ -12,13 +13,16 @@ mod shape;
 mod spot;
 mod statements;
 mod val;
+mod weight;
 
+pub use expansion_laws::{laws_of_apps, laws_of_expansions};
 pub use expression::eval;
 pub use place::shape_at;
 pub use scope::Scope;
 pub use shape::{Shape, Tree};
 pub use spot::{Kin, Spot};
 pub use val::Val;
+pub use weight::{WeighRefused, weigh};
 
 #[cfg(test)]
 mod tests;

@@ -2,7 +2,7 @@
 use Rattle.std.proofs.Common.{◌≡◌, ℕ, ◌+◌, ◌==◌, eqb, Bool, true, false, if◌then◌else◌, Option, Some, None, List, refl, ap, ◌∙◌, arith}
 use Rattle.std.proofs.lemmas.Bool.{cond-false}
 use Rattle.dom_forest.specs.Forest.{Forest, empty, tree, times, or_else, or_id, from, previous_after}
-use Rattle.dom_forest.specs.Edits.{changed}
+use Rattle.dom_forest.specs.Edits.{with_change}
 use Rattle.dom_forest.specs.Ids.{has_id, element_with}
 use Rattle.dom_forest.specs.declared.node.NewNode.{NewNode}
 use Rattle.document_machine.proofs.Spots.{absent}
@@ -54,21 +54,21 @@ abbrev Change : Type 0
 Change = NewNode → Forest → Forest → Forest
 
 changed_under : (n i : ℕ) (g : Change) (x : NewNode) (kids kids' l : Forest) (a : ℕ) (b : Bool) → (i == n) ≡ b → (if b then 1 else 0) + a + times n l ≡ 0
-    → (a ≡ 0 → changed n g kids ≡ kids') → changed n g (tree i x kids l) ≡ tree i x kids' l
+    → (a ≡ 0 → with_change n g kids ≡ kids') → with_change n g (tree i x kids l) ≡ tree i x kids' l
 changed_under n i g x kids kids' l a true e z h = absurd (omega arith)
 changed_under n i g x kids kids' l a false e z h =
-    cond-false (eqb i n) _ _ e ∙ ap (λ y. tree i x y (changed n g l)) (h (omega arith)) ∙ ap (tree i x kids') ((absent n l (omega arith)).same g)
+    cond-false (eqb i n) _ _ e ∙ ap (λ y. tree i x y (with_change n g l)) (h (omega arith)) ∙ ap (tree i x kids') ((absent n l (omega arith)).same g)
 
 changed_after : (n i : ℕ) (g : Change) (x : NewNode) (k later later' : Forest) (a : ℕ) (b : Bool) → (i == n) ≡ b → (if b then 1 else 0) + times n k + a ≡ 0
-    → (a ≡ 0 → changed n g later ≡ later') → changed n g (tree i x k later) ≡ tree i x k later'
+    → (a ≡ 0 → with_change n g later ≡ later') → with_change n g (tree i x k later) ≡ tree i x k later'
 changed_after n i g x k later later' a true e z h = absurd (omega arith)
 changed_after n i g x k later later' a false e z h =
-    cond-false (eqb i n) _ _ e ∙ ap (λ y. tree i x y (changed n g later)) ((absent n k (omega arith)).same g) ∙ ap (tree i x k) (h (omega arith))
+    cond-false (eqb i n) _ _ e ∙ ap (λ y. tree i x y (with_change n g later)) ((absent n k (omega arith)).same g) ∙ ap (tree i x k) (h (omega arith))
 
-pub changed-plug : (n : ℕ) (g : NewNode → Forest → Forest → Forest) (c : Context) (f : Forest) → around n c ≡ 0 → changed n g (plug c f) ≡ plug c (changed n g f)
-changed-plug n g here f z = refl
-changed-plug n g (under i x c l) f z = changed_under n i g x (plug c f) (plug c (changed n g f)) l (around n c) (i == n) refl z (changed-plug n g c f)
-changed-plug n g (after i x k c) f z = changed_after n i g x k (plug c f) (plug c (changed n g f)) (around n c) (i == n) refl z (changed-plug n g c f)
+pub with_change-plug : (n : ℕ) (g : NewNode → Forest → Forest → Forest) (c : Context) (f : Forest) → around n c ≡ 0 → with_change n g (plug c f) ≡ plug c (with_change n g f)
+with_change-plug n g here f z = refl
+with_change-plug n g (under i x c l) f z = changed_under n i g x (plug c f) (plug c (with_change n g f)) l (around n c) (i == n) refl z (with_change-plug n g c f)
+with_change-plug n g (after i x k c) f z = changed_after n i g x k (plug c f) (plug c (with_change n g f)) (around n c) (i == n) refl z (with_change-plug n g c f)
 
 or_else-empty : (f : Forest) → or_else f empty ≡ f
 or_else-empty empty = refl

@@ -1,27 +1,27 @@
 -- `$RS` over a forest around a container and around a placeholder.
 use Rattle.std.proofs.Common.{◌≡◌, ℕ, ◌+◌, ◌<◌, ◌≤◌, ◌==◌, nat_lt, true, false, if◌then◌else◌, inl, inr, Some, Ok, List, [], sym, ap, ◌∙◌, subst, arith}
 use Rattle.std.proofs.lemmas.Bool.{cond-false, cases_lt}
-use Rattle.dom_forest.specs.Forest.{Forest, empty, tree, times, joined, or_id, from, first_tree, first_kids}
-use Rattle.dom_forest.specs.Edits.{DomState, IsNumbered, changed, renumbered, without}
+use Rattle.dom_forest.specs.Forest.{Forest, empty, tree, times, joined_forests, or_id, from, first_tree, first_kids}
+use Rattle.dom_forest.specs.Edits.{DomState, IsNumbered, with_change, numbered_from, without_node}
 use Rattle.dom_forest.specs.Ids.{has_id, element_with}
 use Rattle.dom_forest.specs.declared.node.NewNode.{NewNode}
 use Rattle.fizz_instructions.specs.Bodies.{placeholder_id, segment_id}
 use Rattle.document_machine.specs.Edits.{Edited, fill_placeholder, fill_with, fill_from, with_children_before, unless_open}
 use Rattle.page_laws.specs.Nodes.{Nodes, nodes_of, joined_nodes, id_count}
 use Rattle.page_laws.specs.DocumentEdits.{LeavesNodes}
-use Rattle.page_laws.proofs.NodesLemmas.{nodes_of-joined, nodes_of-renumbered, element_with-none}
-use Rattle.page_laws.proofs.Contexts.{Context, plug, plug_nodes, around, nodes_of-plug, times-plug, changed-plug, element_with-same}
+use Rattle.page_laws.proofs.NodesLemmas.{nodes_of-joined, nodes_of-numbered_from, element_with-none}
+use Rattle.page_laws.proofs.Contexts.{Context, plug, plug_nodes, around, nodes_of-plug, times-plug, with_change-plug, element_with-same}
 use Rattle.page_laws.proofs.PagesLemmas.{one}
-use Rattle.page_laws.proofs.MachineEdits.{one_self, times-renumbered, changed-past, first_once, from_first, changed_first, found_first, fewer}
+use Rattle.page_laws.proofs.MachineEdits.{one_self, times-numbered_from, with_change-past, first_once, from_first, changed_first, found_first, fewer}
 
 -- the children of the node that was taken out, as they are put in
 abbrev pub put_nodes : ℕ → ℕ → Forest → Forest
-put_nodes next c forest = renumbered next (first_kids (renumbered 0 (first_tree (from c forest))))
+put_nodes next c forest = numbered_from next (first_kids (numbered_from 0 (first_tree (from c forest))))
 
 pub put_nodes-of : (next c : ℕ) (forest : Forest) (x : NewNode) (k l : Forest) → from c forest ≡ tree c x k l → nodes_of (put_nodes next c forest) ≡ nodes_of k
 put_nodes-of next c forest x k l e =
-    nodes_of-renumbered next (first_kids (renumbered 0 (first_tree (from c forest))))
-    ∙ ap (λ f. nodes_of (first_kids (renumbered 0 (first_tree f)))) e ∙ nodes_of-renumbered (0 + 1) k
+    nodes_of-numbered_from next (first_kids (numbered_from 0 (first_tree (from c forest))))
+    ∙ ap (λ f. nodes_of (first_kids (numbered_from 0 (first_tree f)))) e ∙ nodes_of-numbered_from (0 + 1) k
 
 -- an element is not found in what has none with the id
 pub not_in : (id : List ℕ) (c : ℕ) (x : NewNode) (k l : Forest) → has_id id x ≡ false → id_count id (nodes_of k) ≡ 0 → element_with id (tree c x k l) ≡ element_with id l
@@ -66,17 +66,17 @@ module _ (C D : Context) (next c p : ℕ) (x y : NewNode) (k l m r : Forest)
   put = put_nodes next c whole.forest
 
   abbrev filled_forest : Forest
-  filled_forest = plug D (joined put r)
+  filled_forest = plug D (joined_forests put r)
 
-  filled_is : (without p (with_children_before p c whole (without c whole))).forest ≡ filled_forest
+  filled_is : (without_node p (with_children_before p c whole (without_node c whole))).forest ≡ filled_forest
   filled_is =
-      let insert : NewNode → Forest → Forest → Forest = λ content kids later. joined put (tree p content kids later) in
+      let insert : NewNode → Forest → Forest → Forest = λ content kids later. joined_forests put (tree p content kids later) in
       let delete : NewNode → Forest → Forest → Forest = λ content kids later. later in
       let once = first_once D p y m r left_once in
-      ap (λ f. changed p delete (changed p insert f)) (changed_first C c x k l numbered.once delete ∙ is)
-      ∙ ap (changed p delete) (changed_first D p y m r left_once insert)
-      ∙ (changed-plug p delete D (joined put (tree p y m r)) once.0
-      ∙ ap (plug D) (changed-past p delete put y m r (times-renumbered p next (first_kids (renumbered 0 (first_tree (from c whole.forest)))) old_id)))
+      ap (λ f. with_change p delete (with_change p insert f)) (changed_first C c x k l numbered.once delete ∙ is)
+      ∙ ap (with_change p delete) (changed_first D p y m r left_once insert)
+      ∙ (with_change-plug p delete D (joined_forests put (tree p y m r)) once.0
+      ∙ ap (plug D) (with_change-past p delete put y m r (times-numbered_from p next (first_kids (numbered_from 0 (first_tree (from c whole.forest)))) old_id)))
 
   pub fills : (prefix : List ℕ) (h : ℕ) (new rest : Nodes) → has_id (segment_id prefix h) x ≡ true → has_id (placeholder_id prefix h) x ≡ false → has_id (placeholder_id prefix h) y ≡ true
       → id_count (segment_id prefix h) (nodes_of whole.forest) ≡ 1 → id_count (placeholder_id prefix h) (nodes_of k) ≡ 0 → id_count (placeholder_id prefix h) (nodes_of left) ≡ 1
@@ -89,13 +89,13 @@ module _ (C D : Context) (next c p : ℕ) (x y : NewNode) (k l m r : Forest)
       ap (element_with id) is ∙ found_first D p y m r left_once id py (ap (λ f. id_count id (nodes_of f)) (sym is) ∙ one_placeholder) in
       let placeholder_found : element_with id whole.forest ≡ Some p = element_with-same id C (tree c x k l) l (not_in id c x k l px none_inside) ∙ found in
       let inside : times p (first_tree (from c whole.forest)) ≡ 0 = ap (λ f. times p (first_tree f)) (from_first C c x k l numbered.once) ∙ apart in
-      let done : Edited = Ok (without p (with_children_before p c whole (without c whole))) in
+      let done : Edited = Ok (without_node p (with_children_before p c whole (without_node c whole))) in
       record {
-        after = without p (with_children_before p c whole (without c whole));
+        after = without_node p (with_children_before p c whole (without_node c whole));
         is = ap (λ o. fill_with [] segment id whole (unless_open [] o)) container_found
             ∙ ap (λ o. fill_from id whole c (unless_open [] o)) placeholder_found
             ∙ not_inside _ _ done inside;
-        are = ap nodes_of filled_is ∙ nodes_of-plug D (joined put r) ∙ ap (plug_nodes D)
+        are = ap nodes_of filled_is ∙ nodes_of-plug D (joined_forests put r) ∙ ap (plug_nodes D)
             (nodes_of-joined put r ∙ ap (λ n. joined_nodes n (nodes_of r)) (put_nodes-of next c whole.forest x k l (from_first C c x k l numbered.once) ∙ new_is)
             ∙ ap (joined_nodes new) rest_is);
       }

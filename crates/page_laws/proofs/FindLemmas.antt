@@ -2,7 +2,7 @@
 use Rattle.std.proofs.Common.{◌≡◌, ℕ, ◌+◌, ◌<◌, ◌≤◌, ◌==◌, Bool, true, false, inl, inr, Some, None, List, refl, sym, ap, ◌∙◌, subst, arith}
 use Rattle.std.proofs.lemmas.Bool.{eqb-true, cases_eq}
 use Rattle.dom_forest.specs.Forest.{Forest, empty, tree, times, from, first_content, content_of}
-use Rattle.dom_forest.specs.Edits.{DomState, IsNumbered, changed}
+use Rattle.dom_forest.specs.Edits.{DomState, IsNumbered, with_change}
 use Rattle.dom_forest.specs.Ids.{has_id, element_with}
 use Rattle.dom_forest.specs.declared.node.NewNode.{NewNode}
 use Rattle.document_machine.proofs.Spots.{absent}
@@ -50,16 +50,16 @@ finds_one id n x dom numbered c content h =
     let own : s.content ≡ x = cc in
     ap (element_with id) s.is ∙ found_first s.context n s.content s.kids s.later once id (ap (has_id id) own ∙ h) (ap (λ f. id_count id (nodes_of f)) (sym s.is) ∙ c)
 
-pub id_count-changed : (id : List ℕ) (n : ℕ) (change : NewNode → Forest → Forest → Forest) (x : NewNode) (k l : Forest) (dom : DomState) → IsNumbered dom
+pub id_count-with_change : (id : List ℕ) (n : ℕ) (change : NewNode → Forest → Forest → Forest) (x : NewNode) (k l : Forest) (dom : DomState) → IsNumbered dom
     → from n dom.forest ≡ tree n x k l
-    → id_count id (nodes_of (changed n change dom.forest)) + id_count id (nodes_of (tree n x k l)) ≡ id_count id (nodes_of dom.forest) + id_count id (nodes_of (change x k l))
-id_count-changed id n change x k l dom numbered e =
+    → id_count id (nodes_of (with_change n change dom.forest)) + id_count id (nodes_of (tree n x k l)) ≡ id_count id (nodes_of dom.forest) + id_count id (nodes_of (change x k l))
+id_count-with_change id n change x k l dom numbered e =
     let s = stands n dom.forest (there n dom.forest x (ap first_content e)) in
     let once : (j : ℕ) → times j (plug s.context (tree n s.content s.kids s.later)) ≤ 1 = λ j. subst (λ f. times j f ≤ 1) s.is (numbered.once j) in
     let same : tree n s.content s.kids s.later ≡ tree n x k l = sym (ap (from n) s.is ∙ from_first s.context n s.content s.kids s.later once) ∙ e in
     let is : dom.forest ≡ plug s.context (tree n x k l) = s.is ∙ ap (plug s.context) same in
-    let now : changed n change dom.forest ≡ plug s.context (change x k l) =
-    ap (changed n change) is ∙ changed_first s.context n x k l (λ j. subst (λ f. times j f ≤ 1) is (numbered.once j)) change in
+    let now : with_change n change dom.forest ≡ plug s.context (change x k l) =
+    ap (with_change n change) is ∙ changed_first s.context n x k l (λ j. subst (λ f. times j f ≤ 1) is (numbered.once j)) change in
     omega (
       arith,
       ap (λ f. id_count id (nodes_of f)) now,

@@ -1,9 +1,9 @@
 -- Nodes without ids: joins, numbers and counts.
 use Rattle.std.proofs.Common.{◌≡◌, ℕ, ◌+◌, Bool, true, false, if◌then◌else◌, Option, Some, None, List, refl, sym, ap, ◌∙◌, arith}
-use Rattle.dom_forest.specs.Forest.{Forest, empty, tree, count, joined, or_id}
-use Rattle.dom_forest.specs.Edits.{renumbered}
+use Rattle.dom_forest.specs.Forest.{Forest, empty, tree, count, joined_forests, or_id}
+use Rattle.dom_forest.specs.Edits.{numbered_from}
 use Rattle.dom_forest.specs.Ids.{has_id, element_with}
-use Rattle.page_laws.specs.Nodes.{Nodes, none, node, nodes_of, unnumbered, joined_nodes, id_count}
+use Rattle.page_laws.specs.Nodes.{Nodes, none, node, nodes_of, forest_of_nodes, joined_nodes, id_count}
 
 pub joined_nodes-assoc : (a b c : Nodes) → joined_nodes (joined_nodes a b) c ≡ joined_nodes a (joined_nodes b c)
 joined_nodes-assoc none b c = refl
@@ -13,35 +13,35 @@ pub joined_nodes-none : (a : Nodes) → joined_nodes a none ≡ a
 joined_nodes-none none = refl
 joined_nodes-none (node x k l) = ap (node x k) (joined_nodes-none l)
 
-pub nodes_of-joined : (f g : Forest) → nodes_of (joined f g) ≡ joined_nodes (nodes_of f) (nodes_of g)
+pub nodes_of-joined : (f g : Forest) → nodes_of (joined_forests f g) ≡ joined_nodes (nodes_of f) (nodes_of g)
 nodes_of-joined empty g = refl
 nodes_of-joined (tree i x k l) g = ap (node x (nodes_of k)) (nodes_of-joined l g)
 
-pub nodes_of-renumbered : (n : ℕ) (f : Forest) → nodes_of (renumbered n f) ≡ nodes_of f
-nodes_of-renumbered n empty = refl
-nodes_of-renumbered n (tree i x k l) =
-    ap (λ y. node x y (nodes_of (renumbered (n + 1 + count k) l))) (nodes_of-renumbered (n + 1) k)
-    ∙ ap (node x (nodes_of k)) (nodes_of-renumbered (n + 1 + count k) l)
+pub nodes_of-numbered_from : (n : ℕ) (f : Forest) → nodes_of (numbered_from n f) ≡ nodes_of f
+nodes_of-numbered_from n empty = refl
+nodes_of-numbered_from n (tree i x k l) =
+    ap (λ y. node x y (nodes_of (numbered_from (n + 1 + count k) l))) (nodes_of-numbered_from (n + 1) k)
+    ∙ ap (node x (nodes_of k)) (nodes_of-numbered_from (n + 1 + count k) l)
 
-pub nodes_of-unnumbered : (n : Nodes) → nodes_of (unnumbered n) ≡ n
-nodes_of-unnumbered none = refl
-nodes_of-unnumbered (node x k l) =
-    ap (λ y. node x y (nodes_of (unnumbered l))) (nodes_of-unnumbered k) ∙ ap (node x k) (nodes_of-unnumbered l)
+pub nodes_of-forest_of_nodes : (n : Nodes) → nodes_of (forest_of_nodes n) ≡ n
+nodes_of-forest_of_nodes none = refl
+nodes_of-forest_of_nodes (node x k l) =
+    ap (λ y. node x y (nodes_of (forest_of_nodes l))) (nodes_of-forest_of_nodes k) ∙ ap (node x k) (nodes_of-forest_of_nodes l)
 
-count-unnumbered : (f : Forest) → count (unnumbered (nodes_of f)) ≡ count f
-count-unnumbered empty = refl
-count-unnumbered (tree i x k l) = omega (arith, count-unnumbered k, count-unnumbered l)
+count-forest_of_nodes : (f : Forest) → count (forest_of_nodes (nodes_of f)) ≡ count f
+count-forest_of_nodes empty = refl
+count-forest_of_nodes (tree i x k l) = omega (arith, count-forest_of_nodes k, count-forest_of_nodes l)
 
-pub renumbered-unnumbered : (n : ℕ) (f : Forest) → renumbered n (unnumbered (nodes_of f)) ≡ renumbered n f
-renumbered-unnumbered n empty = refl
-renumbered-unnumbered n (tree i x k l) =
-    ap (λ y. tree n x y (renumbered (n + 1 + count (unnumbered (nodes_of k))) (unnumbered (nodes_of l)))) (renumbered-unnumbered (n + 1) k)
-    ∙ ap (λ m. tree n x (renumbered (n + 1) k) (renumbered (n + 1 + m) (unnumbered (nodes_of l)))) (count-unnumbered k)
-    ∙ ap (tree n x (renumbered (n + 1) k)) (renumbered-unnumbered (n + 1 + count k) l)
+pub numbered_from-forest_of_nodes : (n : ℕ) (f : Forest) → numbered_from n (forest_of_nodes (nodes_of f)) ≡ numbered_from n f
+numbered_from-forest_of_nodes n empty = refl
+numbered_from-forest_of_nodes n (tree i x k l) =
+    ap (λ y. tree n x y (numbered_from (n + 1 + count (forest_of_nodes (nodes_of k))) (forest_of_nodes (nodes_of l)))) (numbered_from-forest_of_nodes (n + 1) k)
+    ∙ ap (λ m. tree n x (numbered_from (n + 1) k) (numbered_from (n + 1 + m) (forest_of_nodes (nodes_of l)))) (count-forest_of_nodes k)
+    ∙ ap (tree n x (numbered_from (n + 1) k)) (numbered_from-forest_of_nodes (n + 1 + count k) l)
 
-pub unnumbered-joined : (a b : Nodes) → unnumbered (joined_nodes a b) ≡ joined (unnumbered a) (unnumbered b)
+pub unnumbered-joined : (a b : Nodes) → forest_of_nodes (joined_nodes a b) ≡ joined_forests (forest_of_nodes a) (forest_of_nodes b)
 unnumbered-joined none b = refl
-unnumbered-joined (node x k l) b = ap (tree 0 x (unnumbered k)) (unnumbered-joined l b)
+unnumbered-joined (node x k l) b = ap (tree 0 x (forest_of_nodes k)) (unnumbered-joined l b)
 
 pub id_count-joined : (id : List ℕ) (a b : Nodes) → id_count id (joined_nodes a b) ≡ id_count id a + id_count id b
 id_count-joined id none b = omega arith
@@ -81,7 +81,7 @@ id_count-zero id (tree i x k l) e =
     zero_tree (has_id id x) i (id_count id (nodes_of k)) (id_count id (nodes_of l)) (element_with id k) (element_with id l) e
     (id_count-zero id k) (id_count-zero id l)
 
-pub element_with-joined : (id : List ℕ) (a b : Forest) → element_with id (joined a b) ≡ or_id (element_with id a) (element_with id b)
+pub element_with-joined : (id : List ℕ) (a b : Forest) → element_with id (joined_forests a b) ≡ or_id (element_with id a) (element_with id b)
 element_with-joined id empty b = refl
 element_with-joined id (tree i x k l) b =
     ap (λ o. if has_id id x then Some i else or_id (element_with id k) o) (element_with-joined id l b)

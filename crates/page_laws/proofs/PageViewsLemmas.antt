@@ -11,7 +11,7 @@ use Rattle.fizz_text.specs.Hexadecimal.{hexadecimal}
 use Rattle.html_names.specs.Names.{begins_with}
 use Rattle.html_names.specs.Attributes.{is_reserved}
 use Rattle.html_names.proofs.NamesLemmas.{reserved_after}
-use Rattle.dom_forest.specs.Edits.{DomState, renumbered}
+use Rattle.dom_forest.specs.Edits.{DomState, numbered_from}
 use Rattle.dom_forest.specs.Forest.{Forest}
 use Rattle.dom_forest.specs.declared.node.Mark.TheVariants.{End}
 use Rattle.dom_forest.specs.declared.node.NewNode.TheVariants.{Comment}
@@ -19,19 +19,19 @@ use Rattle.fizz_instructions.specs.Bodies.{segment_id}
 use Rattle.document_machine.specs.declared.status.BoundaryStatus.{BoundaryStatus}
 use Rattle.document_machine.specs.declared.status.BoundaryStatus.TheVariants as status
 use Rattle.document_machine.specs.Views as view
-use Rattle.document_machine.specs.Views.{View, Levels, digest_after, digest_in, ended, followed, has_name, is_container, is_left_out, is_segment_id, levels_of, opened, siblings_of, view_of, with_first}
-use Rattle.page_laws.specs.Nodes.{Nodes, none, node, nodes_of, unnumbered, joined_nodes}
+use Rattle.document_machine.specs.Views.{View, Levels, digest_after, digest_in, levels_at_end, joined_views, has_name, is_container, is_left_out, is_segment_id, levels_of, levels_at_boundary, siblings_of, view_of, with_first}
+use Rattle.page_laws.specs.Nodes.{Nodes, none, node, nodes_of, forest_of_nodes, joined_nodes}
 use Rattle.page_laws.specs.Pages.{Page, nothing, text, element, separator, placeholder, complete, pending, client, IsCleanPage, page_nodes, nodes_to_end, client_attributes, hidden_attribute, id_attribute, is_reserved_id}
 use Rattle.page_laws.specs.Documents.{Container, StreamedDocument, container_nodes, document_nodes}
 use Rattle.page_laws.specs.PageViews.{page_view, siblings_view}
 use Rattle.page_laws.specs.DocumentEdits.{IsStreamed}
-use Rattle.page_laws.proofs.NodesLemmas.{joined_nodes-assoc, joined_nodes-none, nodes_of-unnumbered, renumbered-unnumbered}
+use Rattle.page_laws.proofs.NodesLemmas.{joined_nodes-assoc, joined_nodes-none, nodes_of-forest_of_nodes, numbered_from-forest_of_nodes}
 use Rattle.page_laws.proofs.IdsLemmas.{never_true}
-use Rattle.page_laws.proofs.ViewsLemmas.{followed-end, left_out}
+use Rattle.page_laws.proofs.ViewsLemmas.{joined_views-end, left_out}
 
 -- Nodes as they are seen.
 abbrev levels : List ℕ → Bool → Nodes → Levels
-levels prefix at_top nodes = levels_of prefix at_top (unnumbered nodes)
+levels prefix at_top nodes = levels_of prefix at_top (forest_of_nodes nodes)
 
 -- What begins with the prefix and `S:` is reserved.
 begins_segment : (prefix value : List ℕ) → is_reserved prefix value ≡ false → begins_with (prefix ++ codes "S:") value ≡ false
@@ -78,24 +78,24 @@ digest_read prefix (Some i) [] = refl
 digest_read prefix (Some i) (b ∷ bs) = refl
 
 abbrev Sees : List ℕ → Page → Type 0
-Sees prefix page = (at_top : Bool) (more : Nodes) → levels prefix at_top (joined_nodes (page_nodes prefix page) more) ≡ with_first (followed (page_view page)) (levels prefix at_top more)
+Sees prefix page = (at_top : Bool) (more : Nodes) → levels prefix at_top (joined_nodes (page_nodes prefix page) more) ≡ with_first (joined_views (page_view page)) (levels prefix at_top more)
 
 sees_boundary : (prefix : List ℕ) (at_top : Bool) (s : BoundaryStatus) (digest : List ℕ) (k l : Page) (more : Nodes) → Sees prefix k → Sees prefix l
-    → opened s digest (levels prefix at_top (joined_nodes (nodes_to_end (page_nodes prefix k) (page_nodes prefix l)) more)).first
+    → levels_at_boundary s digest (levels prefix at_top (joined_nodes (nodes_to_end (page_nodes prefix k) (page_nodes prefix l)) more)).first
     (levels prefix at_top (joined_nodes (nodes_to_end (page_nodes prefix k) (page_nodes prefix l)) more)).rest
-    ≡ with_first (followed (view.boundary s digest (page_view k) (page_view l))) (levels prefix at_top more)
+    ≡ with_first (joined_views (view.boundary s digest (page_view k) (page_view l))) (levels prefix at_top more)
 sees_boundary prefix at_top s digest k l more hk hl =
     let after : Nodes = joined_nodes (page_nodes prefix l) more in
     let rest : Levels = levels prefix at_top more in
-    ap (λ n. opened s digest (levels prefix at_top n).first (levels prefix at_top n).rest) (joined_nodes-assoc (page_nodes prefix k) (node (Comment End) none (page_nodes prefix l)) more)
-    ∙ ap (λ (x : Levels). opened s digest x.first x.rest) (hk at_top (node (Comment End) none after))
-    ∙ ap (λ v. record { first = view.boundary s digest v (levels prefix at_top after).first; rest = (levels prefix at_top after).rest }) (followed-end (page_view k))
+    ap (λ n. levels_at_boundary s digest (levels prefix at_top n).first (levels prefix at_top n).rest) (joined_nodes-assoc (page_nodes prefix k) (node (Comment End) none (page_nodes prefix l)) more)
+    ∙ ap (λ (x : Levels). levels_at_boundary s digest x.first x.rest) (hk at_top (node (Comment End) none after))
+    ∙ ap (λ v. record { first = view.boundary s digest v (levels prefix at_top after).first; rest = (levels prefix at_top after).rest }) (joined_views-end (page_view k))
     ∙ ap (with_first (view.boundary s digest (page_view k))) (hl at_top more)
 
 sees_alone : (prefix : List ℕ) (at_top : Bool) (page : Page) → Sees prefix page → siblings_of (levels prefix at_top (page_nodes prefix page)) ≡ page_view page
 sees_alone prefix at_top page h =
     ap (λ n. siblings_of (levels prefix at_top n)) (sym (joined_nodes-none (page_nodes prefix page)))
-    ∙ ap siblings_of (h at_top none) ∙ followed-end (page_view page)
+    ∙ ap siblings_of (h at_top none) ∙ joined_views-end (page_view page)
 
 pub levels_of-page : (prefix : List ℕ) (page : Page) → IsCleanPage prefix page → Sees prefix page
 levels_of-page prefix nothing c at_top more = refl
@@ -110,7 +110,7 @@ levels_of-page prefix (complete k l) c at_top more = sees_boundary prefix at_top
 levels_of-page prefix (pending i k l) c at_top more = sees_boundary prefix at_top status.Pending [] k l more (levels_of-page prefix k c.0) (levels_of-page prefix l c.1)
 levels_of-page prefix (client i d k l) c at_top more =
     let inner : Nodes = joined_nodes (nodes_to_end (page_nodes prefix k) (page_nodes prefix l)) more in
-    ap (λ x. opened status.Client x (levels prefix at_top inner).first (levels prefix at_top inner).rest) (digest_read prefix i d)
+    ap (λ x. levels_at_boundary status.Client x (levels prefix at_top inner).first (levels prefix at_top inner).rest) (digest_read prefix i d)
     ∙ sees_boundary prefix at_top status.Client d k l more (levels_of-page prefix k c.0) (levels_of-page prefix l c.1)
 
 -- Containers are left out.
@@ -131,22 +131,22 @@ levels_of-containers prefix (c ∷ cs) =
     cond-true (is_left_out prefix true (codes "div") attributes) _ _ (left_out prefix (codes "div") attributes (own_container prefix c.id))
     ∙ levels_of-containers prefix cs
 
-pub levels_by_nodes : (prefix : List ℕ) (f g : Forest) → nodes_of f ≡ nodes_of g → ((n : ℕ) (h : Forest) → view_of prefix (renumbered n h) ≡ view_of prefix h) → view_of prefix f ≡ view_of prefix g
+pub levels_by_nodes : (prefix : List ℕ) (f g : Forest) → nodes_of f ≡ nodes_of g → ((n : ℕ) (h : Forest) → view_of prefix (numbered_from n h) ≡ view_of prefix h) → view_of prefix f ≡ view_of prefix g
 levels_by_nodes prefix f g e ids =
-    sym (ids 0 f) ∙ ap (view_of prefix) (sym (renumbered-unnumbered 0 f)) ∙ ap (λ n. view_of prefix (renumbered 0 (unnumbered n))) e
-    ∙ ap (view_of prefix) (renumbered-unnumbered 0 g) ∙ ids 0 g
+    sym (ids 0 f) ∙ ap (view_of prefix) (sym (numbered_from-forest_of_nodes 0 f)) ∙ ap (λ n. view_of prefix (numbered_from 0 (forest_of_nodes n))) e
+    ∙ ap (view_of prefix) (numbered_from-forest_of_nodes 0 g) ∙ ids 0 g
 
-pub page_seen : (prefix : List ℕ) (at_top : Bool) (page : Page) → IsCleanPage prefix page → siblings_view prefix at_top (unnumbered (page_nodes prefix page)) ≡ page_view page
+pub page_seen : (prefix : List ℕ) (at_top : Bool) (page : Page) → IsCleanPage prefix page → siblings_view prefix at_top (forest_of_nodes (page_nodes prefix page)) ≡ page_view page
 page_seen prefix at_top page c = sees_alone prefix at_top page (levels_of-page prefix page c)
 
-shown_alone : (prefix : List ℕ) (d : StreamedDocument) → IsCleanPage prefix d.shown → view_of prefix (unnumbered (document_nodes prefix d)) ≡ page_view d.shown
+shown_alone : (prefix : List ℕ) (d : StreamedDocument) → IsCleanPage prefix d.shown → view_of prefix (forest_of_nodes (document_nodes prefix d)) ≡ page_view d.shown
 shown_alone prefix d c =
     ap siblings_of (levels_of-page prefix d.shown c true (container_nodes prefix d.containers)
-    ∙ ap (with_first (followed (page_view d.shown))) (levels_of-containers prefix d.containers))
-    ∙ followed-end (page_view d.shown)
+    ∙ ap (with_first (joined_views (page_view d.shown))) (levels_of-containers prefix d.containers))
+    ∙ joined_views-end (page_view d.shown)
 
-pub document_seen : ((prefix : List ℕ) (n : ℕ) (h : Forest) → view_of prefix (renumbered n h) ≡ view_of prefix h) → (prefix : List ℕ) (d : StreamedDocument) (dom : DomState) → IsStreamed prefix d dom
+pub document_seen : ((prefix : List ℕ) (n : ℕ) (h : Forest) → view_of prefix (numbered_from n h) ≡ view_of prefix h) → (prefix : List ℕ) (d : StreamedDocument) (dom : DomState) → IsStreamed prefix d dom
     → view_of prefix dom.forest ≡ page_view d.shown
 document_seen ids prefix d dom s =
-    levels_by_nodes prefix dom.forest (unnumbered (document_nodes prefix d)) (s.are ∙ sym (nodes_of-unnumbered (document_nodes prefix d))) (ids prefix)
+    levels_by_nodes prefix dom.forest (forest_of_nodes (document_nodes prefix d)) (s.are ∙ sym (nodes_of-forest_of_nodes (document_nodes prefix d))) (ids prefix)
     ∙ shown_alone prefix d s.clean.0

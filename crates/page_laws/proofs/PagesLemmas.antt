@@ -4,7 +4,7 @@ use Rattle.std.specs.Str.{bytes_eq}
 use Rattle.std.specs.List.{list_any}
 use Rattle.std.proofs.lemmas.Bool.{cond-false, eqb-true, ne_eqb}
 use Rattle.html_names.specs.Attributes.{is_reserved}
-use Rattle.dom_forest.specs.Forest.{Forest, empty, tree, joined}
+use Rattle.dom_forest.specs.Forest.{Forest, empty, tree, joined_forests}
 use Rattle.dom_forest.specs.Boundary.{closing_mark}
 use Rattle.dom_forest.specs.Ids.{gives_id, has_id}
 use Rattle.dom_forest.specs.declared.node.Mark.TheVariants.{Complete, Pending, Client, End, Space}
@@ -83,21 +83,21 @@ not_zero (suc j) e = (j, omega arith)
 
 -- What ends after balanced siblings is what ends after them alone.
 past_end : (i k n : ℕ) (later more : Forest) → not (k == 0) && closes_all (nodes_of later) (k - 1) ≡ true
-    → ((j : ℕ) → closes_all (nodes_of later) j ≡ true → closing_mark (joined later more) (j + n) ≡ closing_mark more n)
-    → (if k + n == 0 then Some i else closing_mark (joined later more) (k + n - 1)) ≡ closing_mark more n
+    → ((j : ℕ) → closes_all (nodes_of later) j ≡ true → closing_mark (joined_forests later more) (j + n) ≡ closing_mark more n)
+    → (if k + n == 0 then Some i else closing_mark (joined_forests later more) (k + n - 1)) ≡ closing_mark more n
 past_end i k n later more e h =
     let both = both_true (not (k == 0)) (closes_all (nodes_of later) (k - 1)) e in
     let some = not_zero k both.0 in
     cond-false (eqb (k + n) 0) _ _ (ne_eqb (k + n) 0 (λ z. omega (arith, some.1)))
-    ∙ ap (closing_mark (joined later more)) (omega (arith, some.1)) ∙ h (k - 1) both.1
+    ∙ ap (closing_mark (joined_forests later more)) (omega (arith, some.1)) ∙ h (k - 1) both.1
 
-pub closing_mark-past : (front more : Forest) (k n : ℕ) → closes_all (nodes_of front) k ≡ true → closing_mark (joined front more) (k + n) ≡ closing_mark more n
+pub closing_mark-past : (front more : Forest) (k n : ℕ) → closes_all (nodes_of front) k ≡ true → closing_mark (joined_forests front more) (k + n) ≡ closing_mark more n
 closing_mark-past empty more k n e = ap (λ j. closing_mark more (j + n)) (eqb-true k 0 e) ∙ ap (closing_mark more) (omega arith)
 closing_mark-past (tree i (Element name attributes) kids later) more k n e = closing_mark-past later more k n e
 closing_mark-past (tree i (Text t) kids later) more k n e = closing_mark-past later more k n e
-closing_mark-past (tree i (Comment Complete) kids later) more k n e = ap (closing_mark (joined later more)) (omega arith) ∙ closing_mark-past later more (k + 1) n e
-closing_mark-past (tree i (Comment Pending) kids later) more k n e = ap (closing_mark (joined later more)) (omega arith) ∙ closing_mark-past later more (k + 1) n e
-closing_mark-past (tree i (Comment Client) kids later) more k n e = ap (closing_mark (joined later more)) (omega arith) ∙ closing_mark-past later more (k + 1) n e
+closing_mark-past (tree i (Comment Complete) kids later) more k n e = ap (closing_mark (joined_forests later more)) (omega arith) ∙ closing_mark-past later more (k + 1) n e
+closing_mark-past (tree i (Comment Pending) kids later) more k n e = ap (closing_mark (joined_forests later more)) (omega arith) ∙ closing_mark-past later more (k + 1) n e
+closing_mark-past (tree i (Comment Client) kids later) more k n e = ap (closing_mark (joined_forests later more)) (omega arith) ∙ closing_mark-past later more (k + 1) n e
 closing_mark-past (tree i (Comment End) kids later) more k n e = past_end i k n later more e (λ j h. closing_mark-past later more j n h)
 closing_mark-past (tree i (Comment Space) kids later) more k n e = closing_mark-past later more k n e
 

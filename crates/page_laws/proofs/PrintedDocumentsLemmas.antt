@@ -3,9 +3,9 @@ use Rattle.std.proofs.Common.{◌≡◌, ℕ, ◌-◌, Bool, true, false, if◌t
 use Rattle.fizz_text.specs.declared.attribute.Attr.{Attr}
 use Rattle.html_names.specs.Escape.{escape_of}
 use Rattle.html_names.specs.Printing.{end_tag, tag_prefix}
-use Rattle.dom_forest.specs.Edits.{IsNumbered, renumbered}
+use Rattle.dom_forest.specs.Edits.{IsNumbered, numbered_from}
 use Rattle.dom_forest.specs.Forest.{Forest, empty, tree}
-use Rattle.dom_forest.specs.Printing.{Printed, is_void, printed, printed_nodes, siblings_bytes, text_bytes}
+use Rattle.dom_forest.specs.Printing.{Printed, is_void, printed_node, printed_nodes, siblings_bytes, text_bytes}
 use Rattle.dom_forest.specs.declared.document.DocNode.{DocNode}
 use Rattle.dom_forest.specs.declared.document.DocNode.TheFolds.{fold-roll-DocNode, ind-DocNode, map-DocNode}
 use Rattle.dom_forest.specs.declared.document.DocNode.TheOpen.{DocNode-F, Element as element_layer, Text as text_layer}
@@ -13,7 +13,7 @@ use Rattle.dom_forest.specs.declared.document.DocNode.TheVariants as doc
 use Rattle.dom_forest.specs.declared.document.DocNode.TheViews.{roll-DocNode}
 use Rattle.dom_forest.specs.declared.node.Mark.TheVariants.{Space}
 use Rattle.dom_forest.specs.declared.node.NewNode.TheVariants.{Comment, Text}
-use Rattle.dom_forest.proofs.OpenElements.{printed-element, printed-text}
+use Rattle.dom_forest.proofs.OpenElements.{printed_node-element, printed_node-text}
 use Rattle.document_machine.specs.Documents.{LeavesNoRest, Runs, RunsWhole, most_open}
 use Rattle.document_machine.specs.Plain.{IsPlain, plain_nodes}
 use Rattle.document_machine.specs.Printing.{MayPrint, element_bytes, page_bytes, with_forest}
@@ -31,16 +31,16 @@ standing-text text = ap standing_of (sym (doc.rolls-Text text)) ∙ fold-roll-Do
 
 -- A node is printed as it stands, and is read back.
 record Reads (d : DocNode) : Type 0 where
-  kind : (standing_of d).is_text ≡ (printed d).is_text
-  bytes : (after : Bool) (later : Forest) → page_bytes ((standing_of d).before after later) ≡ (printed d).bytes after ++ page_bytes later
+  kind : (standing_of d).is_text ≡ (printed_node d).is_text
+  bytes : (after : Bool) (later : Forest) → page_bytes ((standing_of d).before after later) ≡ (printed_node d).bytes after ++ page_bytes later
   nodes : (after : Bool) (later : Forest) → plain_nodes ((standing_of d).before after later) ≡ d ∷ plain_nodes later
 
 text_reads : (text : List ℕ) → Reads (doc.Text text)
 text_reads text = record {
-  kind = ap (λ (s : Standing). s.is_text) (standing-text text) ∙ sym (ap (λ (p : Printed). p.is_text) (printed-text text));
+  kind = ap (λ (s : Standing). s.is_text) (standing-text text) ∙ sym (ap (λ (p : Printed). p.is_text) (printed_node-text text));
   bytes = λ after later.
       ap (λ (s : Standing). page_bytes (s.before after later)) (standing-text text) ∙ text_case after (page_bytes later) later refl
-      ∙ ap (λ (p : Printed). p.bytes after ++ page_bytes later) (sym (printed-text text));
+      ∙ ap (λ (p : Printed). p.bytes after ++ page_bytes later) (sym (printed_node-text text));
   nodes = λ after later. ap (λ (s : Standing). plain_nodes (s.before after later)) (standing-text text) ∙ nodes_case after later;
 } where
   text_case : (after : Bool) (more : List ℕ) (later : Forest) → page_bytes later ≡ more
@@ -54,11 +54,11 @@ text_reads text = record {
   nodes_case false later = refl
 
 -- Siblings, each with what is known of it.
-siblings_bytes_read : (es : List ((d : DocNode) × Reads d)) (after : Bool) → page_bytes (siblings_forest after (map standing_of (map (λ e. e.0) es))) ≡ siblings_bytes after (map printed (map (λ e. e.0) es))
+siblings_bytes_read : (es : List ((d : DocNode) × Reads d)) (after : Bool) → page_bytes (siblings_forest after (map standing_of (map (λ e. e.0) es))) ≡ siblings_bytes after (map printed_node (map (λ e. e.0) es))
 siblings_bytes_read [] after = refl
 siblings_bytes_read (e ∷ es) after =
-    e.1.bytes after _ ∙ ap (λ x. (printed e.0).bytes after ++ x)
-    (siblings_bytes_read es (standing_of e.0).is_text ∙ ap (λ b. siblings_bytes b (map printed (map (λ e. e.0) es))) e.1.kind)
+    e.1.bytes after _ ∙ ap (λ x. (printed_node e.0).bytes after ++ x)
+    (siblings_bytes_read es (standing_of e.0).is_text ∙ ap (λ b. siblings_bytes b (map printed_node (map (λ e. e.0) es))) e.1.kind)
 
 siblings_nodes_read : (es : List ((d : DocNode) × Reads d)) (after : Bool) → plain_nodes (siblings_forest after (map standing_of (map (λ e. e.0) es))) ≡ map (λ e. e.0) es
 siblings_nodes_read [] after = refl
@@ -72,12 +72,12 @@ element_reads : (name : List ℕ) (attributes : List Attr) (es : List ((d : DocN
 element_reads name attributes es =
     let kids : List DocNode = map (λ e. e.0) es in
     record {
-      kind = ap (λ (s : Standing). s.is_text) (standing-element name attributes kids) ∙ sym (ap (λ (p : Printed). p.is_text) (printed-element name attributes kids));
+      kind = ap (λ (s : Standing). s.is_text) (standing-element name attributes kids) ∙ sym (ap (λ (p : Printed). p.is_text) (printed_node-element name attributes kids));
       bytes = λ after later.
           ap (λ (s : Standing). page_bytes (s.before after later)) (standing-element name attributes kids)
           ∙ ap (λ x. element_bytes name attributes x ++ page_bytes later) (siblings_bytes_read es false)
-          ∙ ap (λ x. x ++ page_bytes later) (element_case (is_void name) (tag_prefix name attributes) (siblings_bytes false (map printed kids)) (end_tag name))
-          ∙ ap (λ (p : Printed). p.bytes after ++ page_bytes later) (sym (printed-element name attributes kids));
+          ∙ ap (λ x. x ++ page_bytes later) (element_case (is_void name) (tag_prefix name attributes) (siblings_bytes false (map printed_node kids)) (end_tag name))
+          ∙ ap (λ (p : Printed). p.bytes after ++ page_bytes later) (sym (printed_node-element name attributes kids));
       nodes = λ after later.
           ap (λ (s : Standing). plain_nodes (s.before after later)) (standing-element name attributes kids)
           ∙ ap (λ x. doc.Element name attributes x ∷ plain_nodes later) (siblings_nodes_read es false);
@@ -102,7 +102,7 @@ unpaired (d ∷ ds) = ap (λ x. d ∷ x) (unpaired ds)
 pub page_bytes-printed : (nodes : List DocNode) → page_bytes (printed_forest nodes) ≡ printed_nodes nodes
 page_bytes-printed nodes =
     ap (λ ds. page_bytes (siblings_forest false (map standing_of ds))) (sym (unpaired nodes)) ∙ siblings_bytes_read (paired nodes) false
-    ∙ ap (λ ds. siblings_bytes false (map printed ds)) (unpaired nodes)
+    ∙ ap (λ ds. siblings_bytes false (map printed_node ds)) (unpaired nodes)
 
 pub plain_nodes-printed : (nodes : List DocNode) → plain_nodes (printed_forest nodes) ≡ nodes
 plain_nodes-printed nodes =
@@ -112,7 +112,7 @@ plain_nodes-printed nodes =
 pub record PrintLaws : Type 0 where
   pub prints : (prefix : List ℕ) (start : PageState) (forest : Forest) → IsNumbered start.dom → MayPrint forest false (most_open - length start.opened)
       → (run : Runs prefix start (page_bytes forest) (with_forest forest start)) × LeavesNoRest run
-  pub ids : (prefix : List ℕ) (first : ℕ) (forest : Forest) → view_of prefix (renumbered first forest) ≡ view_of prefix forest
+  pub ids : (prefix : List ℕ) (first : ℕ) (forest : Forest) → view_of prefix (numbered_from first forest) ≡ view_of prefix forest
   pub settled : (prefix : List ℕ) (forest : Forest) → IsPlain prefix true forest → settled_of (view_of prefix forest) ≡ Some (plain_nodes forest)
 
 pub printed_document : PrintLaws → (prefix : List ℕ) (nodes : List DocNode) → IsPrintable prefix nodes → IsDocument prefix (printed_nodes nodes) nodes

@@ -9,7 +9,7 @@ use Rattle.fizz_text.specs.Hexadecimal.{hexadecimal}
 use Rattle.html_names.specs.Names.{begins_with}
 use Rattle.dom_forest.specs.Boundary.{closing_mark}
 use Rattle.dom_forest.specs.Edits.{DomState, IsNumbered}
-use Rattle.dom_forest.specs.Forest.{Forest, empty, tree, times, joined, from, first_content, first_later, content_of, later_of}
+use Rattle.dom_forest.specs.Forest.{Forest, empty, tree, times, joined_forests, from, first_content, first_later, content_of, later_of}
 use Rattle.dom_forest.specs.declared.node.Mark.TheVariants.{Complete, Pending, Client, End, Space}
 use Rattle.dom_forest.specs.declared.node.NewNode.{NewNode}
 use Rattle.dom_forest.specs.declared.node.NewNode.TheVariants.{Element, Text, Comment}
@@ -46,11 +46,11 @@ has_placeholder_below prefix end (tree i y kids later) z =
     ∙ ap (λ b. is_placeholder prefix y || (has_placeholder prefix (nodes_of kids) || b)) (has_placeholder_below prefix end later (omega arith))
 
 has_placeholder_inside : (prefix : List ℕ) (end : ℕ) (inside : Forest) (x : NewNode) (k l : Forest) → times end inside ≡ 0
-    → has_placeholder_before prefix end (joined inside (tree end x k l)) ≡ has_placeholder prefix (nodes_of inside)
+    → has_placeholder_before prefix end (joined_forests inside (tree end x k l)) ≡ has_placeholder prefix (nodes_of inside)
 has_placeholder_inside prefix end empty x k l z = cond-true (eqb end end) _ _ (eq-eqb end end refl)
 has_placeholder_inside prefix end (tree i y kids later) x k l z =
     cond-false (eqb i end) _ _ (one_zero (i == end) (omega arith))
-    ∙ ap (λ b. is_placeholder prefix y || (b || has_placeholder_before prefix end (joined later (tree end x k l)))) (has_placeholder_below prefix end kids (omega arith))
+    ∙ ap (λ b. is_placeholder prefix y || (b || has_placeholder_before prefix end (joined_forests later (tree end x k l)))) (has_placeholder_below prefix end kids (omega arith))
     ∙ ap (λ b. is_placeholder prefix y || (has_placeholder prefix (nodes_of kids) || b)) (has_placeholder_inside prefix end later x k l (omega arith))
 
 there : (n : ℕ) (forest : Forest) (x : NewNode) → content_of n forest ≡ Some x → 0 < times n forest

@@ -1,6 +1,6 @@
 -- The machine's edits of a streamed document are those of its pages.
 use Rattle.std.proofs.Common.{◌≡◌, ℕ, ◌+◌, ◌≤◌, true, false, List, [], ◌∷◌, ◌++◌, Some, refl, sym, ap, ◌∙◌, subst, arith}
-use Rattle.dom_forest.specs.Forest.{Forest, empty, tree, times, joined}
+use Rattle.dom_forest.specs.Forest.{Forest, empty, tree, times, joined_forests}
 use Rattle.dom_forest.specs.Edits.{DomState, IsNumbered}
 use Rattle.dom_forest.specs.Ids.{has_id}
 use Rattle.dom_forest.specs.declared.node.Mark.TheVariants.{Complete, Pending, End}
@@ -199,10 +199,10 @@ module _ (prefix : List ℕ) (h : ℕ) (content : Page) (left : StreamedDocument
       let t = first (boundary_template prefix h) none (nodes_to_end r.fallback r.rest) m.later m.later_are in
       let both = halves r.fallback (node (Comment End) none r.rest) t.later t.later_are in
       let e = first (Comment End) none r.rest both.back both.back_is in
-      let shape : p.part ≡ tree m.id (Comment Pending) empty (tree t.id (boundary_template prefix h) empty (joined both.front (tree e.id (Comment End) e.kids e.later))) =
+      let shape : p.part ≡ tree m.id (Comment Pending) empty (tree t.id (boundary_template prefix h) empty (joined_forests both.front (tree e.id (Comment End) e.kids e.later))) =
       m.is ∙ ap (λ k. tree m.id (Comment Pending) k m.later) (nothing_in m.kids m.kids_are)
       ∙ ap (tree m.id (Comment Pending) empty) (t.is ∙ ap (λ k. tree t.id (boundary_template prefix h) k t.later) (nothing_in t.kids t.kids_are)
-      ∙ ap (tree t.id (boundary_template prefix h) empty) (both.is ∙ ap (joined both.front) e.is)) in
+      ∙ ap (tree t.id (boundary_template prefix h) empty) (both.is ∙ ap (joined_forests both.front) e.is)) in
       let after : Nodes = node (Comment Complete) none (nodes_to_end (page_nodes prefix content) r.rest) in
       let completed : LeavesNodes (complete_boundary prefix [] h h (record { forest = plug a.context (tree a.id (container_element prefix h) a.kids a.later); next = dom.next })) (plug_nodes p.context after) =
       completes a.context p.context dom.next a.id m.id t.id e.id (container_element prefix h) (boundary_template prefix h) a.kids a.later both.front e.kids e.later

@@ -1,6 +1,6 @@
 -- Nodes of which the siblings from one place on become others, and where that place is in a forest of these nodes.
 use Rattle.std.proofs.Common.{◌≡◌, ℕ, zero, suc, ◌+◌, ◌⊎◌, inl, inr, refl, sym, ap, ◌∙◌, subst, arith}
-use Rattle.dom_forest.specs.Forest.{Forest, empty, tree, joined}
+use Rattle.dom_forest.specs.Forest.{Forest, empty, tree, joined_forests}
 use Rattle.dom_forest.specs.declared.node.NewNode.{NewNode}
 use Rattle.dom_forest.specs.declared.node.Mark.TheVariants.{End}
 use Rattle.dom_forest.specs.declared.node.NewNode.TheVariants.{Comment}
@@ -111,7 +111,7 @@ placed Rule _ _ (after x k l l' t) (tree i y kids later) e =
 pub record Halves (forest : Forest) (a b : Nodes) : Type 0 where
   pub front : Forest
   pub back : Forest
-  pub is : forest ≡ joined front back
+  pub is : forest ≡ joined_forests front back
   pub front_is : nodes_of front ≡ a
   pub back_is : nodes_of back ≡ b
 

@@ -15,9 +15,9 @@ nodes_of empty = none
 nodes_of (tree i content kids later) = node content (nodes_of kids) (nodes_of later)
 
 -- The nodes as a forest in which each id is 0, for what is defined on forests and says nothing of ids.
-abbrev pub unnumbered : Nodes → Forest
-unnumbered none = empty
-unnumbered (node content kids later) = tree 0 content (unnumbered kids) (unnumbered later)
+abbrev pub forest_of_nodes : Nodes → Forest
+forest_of_nodes none = empty
+forest_of_nodes (node content kids later) = tree 0 content (forest_of_nodes kids) (forest_of_nodes later)
 
 -- The one and then the other, as siblings.
 abbrev pub joined_nodes : Nodes → Nodes → Nodes

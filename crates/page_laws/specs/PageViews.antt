@@ -1,6 +1,6 @@
 -- What is seen of a page, and of siblings at the top of a document or in an element.
 use Rattle.std.specs.Prelude.{◌≡◌, ℕ, Bool, List, []}
-use Rattle.dom_forest.specs.Forest.{Forest, tree, joined}
+use Rattle.dom_forest.specs.Forest.{Forest, tree, joined_forests}
 use Rattle.dom_forest.specs.declared.node.Mark.{Mark}
 use Rattle.dom_forest.specs.declared.node.Mark.TheVariants.{Complete, Pending, Client, End}
 use Rattle.dom_forest.specs.declared.node.NewNode.TheVariants.{Comment}
@@ -32,7 +32,7 @@ pub record EndsAt (siblings : Forest) (end : ℕ) : Type 0 where
   pub inside : Forest
   pub below : Forest
   pub after : Forest
-  pub whole : siblings ≡ joined inside (tree end (Comment End) below after)
+  pub whole : siblings ≡ joined_forests inside (tree end (Comment End) below after)
   pub balanced : IsBalanced (nodes_of inside)
 
 -- What a marker begins: the kind of the boundary, and its digest by what follows the marker.

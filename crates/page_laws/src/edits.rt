@@ -12,17 +12,22 @@ ghost use Rattle.page_laws.specs.Pages.{IsCleanPage, Page, client_count, joined_
 /// the segment's container into the place of its placeholder, `$RC` makes it what the boundary shows, and `$RX` leaves the
 /// boundary to the client.
 pub fn laws_of_edits()
-    ensures fill { (prefix : List ℕ) (h : ℕ) (content : Page) (left : StreamedDocument) (dom : DomState) →
-        HasContainer prefix h content left dom → sum_of_pages (placeholder_count h) left ≡ 1 → placeholder_count h content ≡ 0 →
+    ensures fill { (prefix : List ℕ) (h : ℕ) (content : Page) (left : StreamedDocument)
+        (dom : DomState) →
+        HasContainer prefix h content left dom → sum_of_pages (placeholder_count h) left ≡ 1 →
+        placeholder_count h content ≡ 0 →
         LeavesNodes (fill_placeholder prefix [] h dom)
         (document_nodes prefix (edited_pages (with_placeholder_filled h content) left)) }
-    ensures complete { (prefix : List ℕ) (h : ℕ) (content : Page) (left : StreamedDocument) (dom : DomState) →
+    ensures complete { (prefix : List ℕ) (h : ℕ) (content : Page) (left : StreamedDocument)
+        (dom : DomState) →
         HasContainer prefix h content left dom →
         sum_of_pages (pending_count h) left ≡ 1 → sum_of_pages (client_count h) left ≡ 0 →
         LeavesNodes (complete_boundary prefix [] h h dom)
         (document_nodes prefix (edited_pages (with_boundary_completed h content) left)) }
-    ensures client { (prefix : List ℕ) (h : ℕ) (error : List ℕ) (d : StreamedDocument) (dom : DomState) →
-        IsStreamed prefix d dom → sum_of_pages (pending_count h) d ≡ 1 → sum_of_pages (client_count h) d ≡ 0 →
+    ensures client { (prefix : List ℕ) (h : ℕ) (error : List ℕ) (d : StreamedDocument)
+        (dom : DomState) →
+        IsStreamed prefix d dom → sum_of_pages (pending_count h) d ≡ 1 →
+        sum_of_pages (client_count h) d ≡ 0 →
         LeavesNodes (client_render prefix h error dom)
         (document_nodes prefix (edited_pages (with_boundary_failed h error) d)) }
 {}
@@ -41,11 +46,14 @@ pub fn laws_of_absent_ids()
 pub fn laws_of_clean_pages()
     ensures joined { (prefix : List ℕ) (a b : Page) → IsCleanPage prefix a → IsCleanPage prefix b →
         IsCleanPage prefix (joined_pages a b) }
-    ensures fill { (prefix : List ℕ) (h : ℕ) (content page : Page) → IsCleanPage prefix content → IsCleanPage prefix page →
+    ensures fill { (prefix : List ℕ) (h : ℕ) (content page : Page) → IsCleanPage prefix content →
+        IsCleanPage prefix page →
         IsCleanPage prefix (with_placeholder_filled h content page) }
-    ensures complete { (prefix : List ℕ) (h : ℕ) (content page : Page) → IsCleanPage prefix content →
+    ensures complete { (prefix : List ℕ) (h : ℕ) (content page : Page) →
+        IsCleanPage prefix content →
         IsCleanPage prefix page → IsCleanPage prefix (with_boundary_completed h content page) }
-    ensures client { (prefix : List ℕ) (h : ℕ) (error : List ℕ) (page : Page) → IsCleanPage prefix page →
+    ensures client { (prefix : List ℕ) (h : ℕ) (error : List ℕ) (page : Page) →
+        IsCleanPage prefix page →
         IsCleanPage prefix (with_boundary_failed h error page) }
 {}
 
@@ -61,6 +69,8 @@ pub fn laws_of_weights()
     ensures complete { (p b c : ℕ → ℕ) (h : ℕ) (content page : Page) → pending_count h page ≡ 1 →
         weight_of_ids p b c (with_boundary_completed h content page) + b h
         ≤ weight_of_ids p b c page + weight_of_ids p b c content }
-    ensures client { (p b c : ℕ → ℕ) (h : ℕ) (error : List ℕ) (page : Page) → pending_count h page ≡ 1 →
-        weight_of_ids p b c (with_boundary_failed h error page) + b h ≡ weight_of_ids p b c page + c h }
+    ensures client { (p b c : ℕ → ℕ) (h : ℕ) (error : List ℕ) (page : Page) →
+        pending_count h page ≡ 1 →
+        weight_of_ids p b c (with_boundary_failed h error page) + b h
+        ≡ weight_of_ids p b c page + c h }
 {}

@@ -12,11 +12,14 @@ use html_read::laws_of_tokens;
 /// A shell has one end. Where late content has begun, later bytes don't move the end; late content directly after bytes that
 /// close what they open, and hold none, begins at their end.
 pub fn laws_of_shells()
-    ensures one { (prefix bytes : List ℕ) (m n : ℕ) → IsShellEnd prefix bytes m → IsShellEnd prefix bytes n → m ≡ n }
+    ensures one { (prefix bytes : List ℕ) (m n : ℕ) → IsShellEnd prefix bytes m →
+        IsShellEnd prefix bytes n → m ≡ n }
     ensures stays { (prefix a b : List ℕ) (at : ℕ) → HasLateAt prefix a at → HasSplit (a ++ b) →
         IsShellEnd prefix (a ++ b) at }
-    ensures begins { (prefix a b more : List ℕ) (toks : List Token) (late : Token) → Tokenizes a toks →
-        still_open 0 toks ≡ 0 → first_late prefix 0 toks ≡ None → IsToken late → is_late prefix late ≡ true →
+    ensures begins { (prefix a b more : List ℕ) (toks : List Token) (late : Token) →
+        Tokenizes a toks →
+        still_open 0 toks ≡ 0 → first_late prefix 0 toks ≡ None → IsToken late →
+        is_late prefix late ≡ true →
         b ≡ spelling late ++ more → HasSplit (a ++ b) → IsShellEnd prefix (a ++ b) (length a) }
 {
     laws_of_tokens();
@@ -26,13 +29,15 @@ pub fn laws_of_shells()
 /// they are theirs, and past the first, which close what they open, those of the others. A rest place of a page in which late
 /// content has begun stays one whatever follows.
 pub fn laws_of_rest_places()
-    ensures within { (a b : List ℕ) (m : ℕ) → m ≤ length a → IsClosedAt (a ++ b) m → IsClosedAt a m }
+    ensures within { (a b : List ℕ) (m : ℕ) → m ≤ length a → IsClosedAt (a ++ b) m →
+        IsClosedAt a m }
     ensures first { (a b : List ℕ) (m : ℕ) → IsClosedAt a m → IsClosedAt (a ++ b) m }
     ensures after { (a b : List ℕ) (k : ℕ) → IsClosed a → begins_tag b ≡ true →
         IsClosedAt (a ++ b) (length a + k) → IsClosedAt b k }
     ensures further { (a b : List ℕ) (k : ℕ) → IsClosed a → begins_tag b ≡ true → IsClosedAt b k →
         IsClosedAt (a ++ b) (length a + k) }
-    ensures stays { (prefix a b : List ℕ) (shell m : ℕ) → HasLateAt prefix a shell → HasSplit (a ++ b) →
+    ensures stays { (prefix a b : List ℕ) (shell m : ℕ) → HasLateAt prefix a shell →
+        HasSplit (a ++ b) →
         IsRestPlace prefix a m → IsRestPlace prefix (a ++ b) m }
 {
     laws_of_tokens();

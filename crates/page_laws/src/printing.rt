@@ -10,7 +10,8 @@ use document_machine::{laws_of_printing, laws_of_views};
 
 /// A printed document of elements and texts is a page, whose settled document it is.
 pub fn laws_of_printed_documents()
-    ensures bytes { (nodes : List DocNode) → page_bytes (printed_forest nodes) ≡ printed_nodes nodes }
+    ensures bytes { (nodes : List DocNode) →
+        page_bytes (printed_forest nodes) ≡ printed_nodes nodes }
     ensures document { (prefix : List ℕ) (nodes : List DocNode) → IsPrintable prefix nodes →
         IsDocument prefix (printed_nodes nodes) nodes }
 {

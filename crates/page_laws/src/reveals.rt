@@ -15,7 +15,8 @@ ghost use Rattle.page_laws.specs.Pages.{HasNoPlaceholder, Page, RevealsWholePage
 pub fn laws_of_reveals()
     ensures forest { (prefix : List ℕ) (dom : DomState) → IsNumbered dom →
         RevealsWholeNodes prefix (nodes_of dom.forest) → RevealsWhole prefix dom.forest }
-    ensures streamed { (prefix : List ℕ) (d : StreamedDocument) (dom : DomState) → IsStreamed prefix d dom →
+    ensures streamed { (prefix : List ℕ) (d : StreamedDocument) (dom : DomState) →
+        IsStreamed prefix d dom →
         RevealsWholeDocument d → RevealsWholeNodes prefix (nodes_of dom.forest) }
     ensures first { (prefix : List ℕ) (front nodes : Nodes) → IsPrefixOf front nodes →
         RevealsWholeNodes prefix nodes → RevealsWholeNodes prefix front }
@@ -24,10 +25,13 @@ pub fn laws_of_reveals()
 /// A page goes on to reveal its boundaries whole after each edit: after `$RC` where the content that is put in has no
 /// placeholder.
 pub fn laws_of_kept_reveals()
-    ensures joined { (a b : Page) → RevealsWholePage a → RevealsWholePage b → RevealsWholePage (joined_pages a b) }
-    ensures fill { (h : ℕ) (content page : Page) → RevealsWholePage content → RevealsWholePage page →
+    ensures joined { (a b : Page) → RevealsWholePage a → RevealsWholePage b →
+        RevealsWholePage (joined_pages a b) }
+    ensures fill { (h : ℕ) (content page : Page) → RevealsWholePage content →
+        RevealsWholePage page →
         RevealsWholePage (with_placeholder_filled h content page) }
-    ensures complete { (h : ℕ) (content page : Page) → HasNoPlaceholder content → RevealsWholePage content →
+    ensures complete { (h : ℕ) (content page : Page) → HasNoPlaceholder content →
+        RevealsWholePage content →
         RevealsWholePage page → RevealsWholePage (with_boundary_completed h content page) }
     ensures client { (h : ℕ) (error : List ℕ) (page : Page) → RevealsWholePage page →
         RevealsWholePage (with_boundary_failed h error page) }

@@ -13,8 +13,10 @@ use document_machine::{laws_of_documents, laws_of_runs};
 pub fn laws_of_starts()
     ensures one { (prefix bytes : List ℕ) (a b : PageState) → IsUtf8 prefix →
         IsDocumentOf prefix bytes a → IsDocumentOf prefix bytes b → a ≡ b }
-    ensures numbered { (prefix bytes : List ℕ) (end : PageState) → IsDocumentOf prefix bytes end → IsNumbered end.dom }
-    ensures resumed { (prefix bytes : List ℕ) (dom : DomState) (known : SentFunctions) (end : PageState) →
+    ensures numbered { (prefix bytes : List ℕ) (end : PageState) →
+        IsDocumentOf prefix bytes end → IsNumbered end.dom }
+    ensures resumed { (prefix bytes : List ℕ) (dom : DomState) (known : SentFunctions)
+        (end : PageState) →
         Runs prefix (on_document dom known) bytes end → IsNumbered dom → IsNumbered end.dom }
 {
     laws_of_documents();

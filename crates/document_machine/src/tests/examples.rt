@@ -28,7 +28,10 @@ pub(crate) fn what_is_open()
 pub(crate) fn what_is_to_come()
     ensures beside { has_placeholder_before [] 9 (placeholder 2 (paragraph_and_end empty)) ≡ true }
     ensures below { has_placeholder_before [] 9 (paragraph_and_end (placeholder 2 empty)) ≡ true }
-    ensures other_prefix { has_placeholder_before (codes "r-") 9 (paragraph_and_end (placeholder 2 empty)) ≡ false }
-    ensures past_the_end { has_placeholder_before [] 1 (paragraph_and_end (placeholder 2 empty)) ≡ false }
-    ensures whole { has_placeholder_before [] 9 (paragraph_and_end (tree 2 (Text (codes "a")) empty empty)) ≡ false }
+    ensures other_prefix { has_placeholder_before (codes "r-") 9
+        (paragraph_and_end (placeholder 2 empty)) ≡ false }
+    ensures past_the_end { has_placeholder_before [] 1 (paragraph_and_end (placeholder 2 empty))
+        ≡ false }
+    ensures whole { has_placeholder_before [] 9
+        (paragraph_and_end (tree 2 (Text (codes "a")) empty empty)) ≡ false }
 {}

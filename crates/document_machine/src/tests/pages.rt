@@ -1,7 +1,7 @@
 //! Pages as bytes: cut at each place, seen before they end, and refused.
 
 ghost use Rattle.std.specs.Prelude.{◌+◌, ◌<◌, ◌≤◌, ◌^◌, length};
-ghost use Rattle.document_machine.specs.MachineState.{fed};
+ghost use Rattle.document_machine.specs.MachineState.{bytes_fed};
 
 use super::views::push_parts;
 use crate::{Machine, MachineFault, View};
@@ -183,8 +183,8 @@ const LOST: &str =
 
 /// The fault of a piece.
 fn refusal(alloc: Global, machine: &mut Machine, piece: &[u8]) -> Result<String, Fail>
-    requires { fed machine.old + length piece.now < 2 ^ 63 }
-    ensures { fed machine.new ≤ fed machine.old + length piece.now }
+    requires { bytes_fed machine.old + length piece.now < 2 ^ 63 }
+    ensures { bytes_fed machine.new ≤ bytes_fed machine.old + length piece.now }
 {
     match machine.feed(piece) {
         Ok(()) => Err(Fail::from("taken")),

@@ -2,9 +2,9 @@
 
 ghost use Rattle.std.specs.Prelude.{◌≡◌, ◌<◌, ◌+◌, ◌^◌, ℕ, List, [], Some, IfErr, OnOk, length};
 ghost use Rattle.dom_forest.specs.Documents.{nodes_in};
-ghost use Rattle.document_machine.specs.MachineState.{HasRun, SeesWhole, fed, nothing_run};
+ghost use Rattle.document_machine.specs.MachineState.{HasRun, SeesWhole, bytes_fed, nothing_run};
 ghost use Rattle.document_machine.specs.Settled.{settled_of};
-ghost use Rattle.document_machine.specs.Shown.{seen};
+ghost use Rattle.document_machine.specs.Shown.{view_of_parts};
 ghost use Rattle.fizz_cli.specs.Feeding.{IsFedCause, IsPendingView, fault_of};
 ghost use Rattle.fizz_cli.specs.PageFiles.{RefusesPage, RefusesPageBytes, ShowsDocument, ShowsFile};
 ghost use Rattle.fizz_cli.specs.Reports.{files_change};
@@ -71,7 +71,7 @@ fn run(alloc: Global, prefix: &Text, bytes: &[u8]) -> Result<View, OrMemory<Page
 
 /// Feeds bytes piece by piece.
 fn feed_all(machine: &mut Machine, bytes: &[u8]) -> Result<(), MachineFault>
-    requires { fed machine.old + length bytes.now < 2 ^ 63 }
+    requires { bytes_fed machine.old + length bytes.now < 2 ^ 63 }
     ensures prefix { machine.new.prefix ≡ machine.old.prefix }
     ensures taken { OnOk result (HasRun [] machine.old → HasRun bytes.now machine.new) }
     ensures refused { IfErr result (λ fault. HasRun [] machine.old → IsFedCause machine.old.prefix bytes.now fault) }
@@ -87,8 +87,8 @@ fn feed_all(machine: &mut Machine, bytes: &[u8]) -> Result<(), MachineFault>
 
 /// The settled document of a view.
 fn settle(alloc: Global, view: &View) -> Result<Doc, OrMemory<PageFault>>
-    ensures { AcceptsOrRefuses (λ doc. settled_of (seen view.now.parts) ≡ Some (nodes_in doc.parts))
-        (IsPendingView (seen view.now.parts)) result }
+    ensures { AcceptsOrRefuses (λ doc. settled_of (view_of_parts view.now.parts) ≡ Some (nodes_in doc.parts))
+        (IsPendingView (view_of_parts view.now.parts)) result }
 {
     match view.settled(alloc) {
         Ok(doc) => Ok(doc),

@@ -2,15 +2,15 @@
 
 ghost use Rattle.std.specs.Prelude.{◌≡◌, ◌∷◌, [], None, Some, codes, false, true};
 ghost use Rattle.dom_forest.specs.Boundary.{closing_mark};
-ghost use Rattle.dom_forest.specs.Forest.{empty, joined, tree};
+ghost use Rattle.dom_forest.specs.Forest.{empty, joined_forests, tree};
 ghost use Rattle.dom_forest.specs.declared.node.Mark.TheVariants.{Complete, End, Pending};
 ghost use Rattle.dom_forest.specs.declared.node.NewNode.TheVariants.{Comment, Element, Text};
-ghost use Rattle.document_machine.specs.Views.{boundary, element, end, followed, text as seen_text, view_of};
+ghost use Rattle.document_machine.specs.Views.{boundary, element, end, joined_views, text as seen_text, view_of};
 ghost use Rattle.document_machine.specs.declared.status.BoundaryStatus.TheVariants as status;
 ghost use Rattle.page_laws.specs.Documents.{container_element, document_nodes};
 ghost use Rattle.page_laws.specs.Examples.{pending_and_placeholder, with_container};
 ghost use Rattle.page_laws.specs.NodeReveals.{RevealsWholeDocument, has_placeholder};
-ghost use Rattle.page_laws.specs.Nodes.{unnumbered};
+ghost use Rattle.page_laws.specs.Nodes.{forest_of_nodes};
 ghost use Rattle.page_laws.specs.PageViews.{page_view, siblings_view};
 ghost use Rattle.page_laws.specs.Pages.{RevealsWholePage, client, complete, hidden_attribute, id_attribute, nothing, page_nodes, pending, placeholder, separator, text};
 
@@ -18,20 +18,26 @@ ghost use Rattle.page_laws.specs.Pages.{RevealsWholePage, client, complete, hidd
 /// isn't seen.
 pub(crate) fn views_of_pages()
     ensures pending { page_view pending_and_placeholder
-        ≡ boundary status.Pending [] (seen_text (codes "wait") end) (element (codes "p") [] end end) }
-    ensures client { page_view (client (Some 1) (codes "e") (separator nothing) (text (codes "a") nothing))
+        ≡ boundary status.Pending [] (seen_text (codes "wait") end)
+        (element (codes "p") [] end end) }
+    ensures client { page_view
+        (client (Some 1) (codes "e") (separator nothing) (text (codes "a") nothing))
         ≡ boundary status.Client (codes "e") end (seen_text (codes "a") end) }
-    ensures nodes { siblings_view [] true (unnumbered (page_nodes [] (client None (codes "e") nothing nothing)))
+    ensures nodes { siblings_view [] true
+        (forest_of_nodes (page_nodes [] (client None (codes "e") nothing nothing)))
         ≡ boundary status.Client (codes "e") end end }
-    ensures container { view_of [] (unnumbered (document_nodes [] with_container)) ≡ page_view pending_and_placeholder }
+    ensures container { view_of [] (forest_of_nodes (document_nodes [] with_container))
+        ≡ page_view pending_and_placeholder }
 {}
 
 /// Siblings that don't end what they begin take in what follows. A container inside an element is seen, and so is one of
 /// another prefix.
 pub(crate) fn views_of_others()
-    ensures begun { siblings_view [] true (joined (tree 0 (Comment Complete) empty empty) (tree 0 (Text (codes "a")) empty empty))
+    ensures begun { siblings_view [] true
+        (joined_forests (tree 0 (Comment Complete) empty empty)
+        (tree 0 (Text (codes "a")) empty empty))
         ≡ boundary status.Complete [] (seen_text (codes "a") end) end }
-    ensures apart { followed (siblings_view [] true (tree 0 (Comment Complete) empty empty))
+    ensures apart { joined_views (siblings_view [] true (tree 0 (Comment Complete) empty empty))
         (siblings_view [] true (tree 0 (Text (codes "a")) empty empty))
         ≡ boundary status.Complete [] end (seen_text (codes "a") end) }
     ensures prefix { view_of (codes "r-") (tree 0 (container_element [] 7) empty empty)
@@ -40,9 +46,12 @@ pub(crate) fn views_of_others()
 
 /// The end of a boundary is past the ends of the boundaries in it, and not in an element.
 pub(crate) fn ends_of_boundaries()
-    ensures nested { closing_mark (tree 1 (Comment Pending) empty (tree 2 (Comment End) empty (tree 3 (Comment End) empty empty))) 0
+    ensures nested { closing_mark
+        (tree 1 (Comment Pending) empty
+        (tree 2 (Comment End) empty (tree 3 (Comment End) empty empty))) 0
         ≡ Some 3 }
-    ensures below { closing_mark (tree 1 (Element (codes "p") []) (tree 2 (Comment End) empty empty) empty) 0 ≡ None }
+    ensures below { closing_mark
+        (tree 1 (Element (codes "p") []) (tree 2 (Comment End) empty empty) empty) 0 ≡ None }
 {}
 
 /// A placeholder may stand in a fallback, and after a boundary that shows its content, but not in that content, also not in
@@ -51,7 +60,9 @@ pub(crate) fn boundaries_shown_whole()
     ensures fallback { RevealsWholePage (pending 1 (placeholder 2 nothing) nothing) }
     ensures after { RevealsWholePage (complete (text (codes "a") nothing) (placeholder 2 nothing)) }
     ensures beside { RevealsWholeDocument with_container }
-    ensures inside { has_placeholder [] (page_nodes [] (pending 1 (placeholder 2 nothing) nothing)) ≡ true }
-    ensures other_prefix { has_placeholder (codes "r-") (page_nodes [] (placeholder 2 nothing)) ≡ false }
+    ensures inside { has_placeholder []
+        (page_nodes [] (pending 1 (placeholder 2 nothing) nothing)) ≡ true }
+    ensures other_prefix { has_placeholder (codes "r-") (page_nodes [] (placeholder 2 nothing))
+        ≡ false }
     ensures boundary_id { has_placeholder [] (page_nodes [] (pending 1 nothing nothing)) ≡ false }
 {}

@@ -1,6 +1,6 @@
 use Rattle.std.proofs.Common.{◌≡◌, IfSome, Option, refl, sym, subst, arith}
 use Rattle.std.specs.Option.{IsNone}
-use Rattle.dom_forest.specs.Edits.{DomState, part_of, renumbered}
+use Rattle.dom_forest.specs.Edits.{DomState, part_of, numbered_from}
 use Rattle.dom_forest.specs.Forest.{Forest, empty, tree, IsElement, IsOneElement, first_content, first_tree, from}
 use Rattle.document_machine.proofs.Finding.{there_element}
 use Rattle.document_machine.proofs.edits.take_children.Goals as goal
@@ -12,7 +12,7 @@ unreachable-requires c =
     omega (arith, there, gone)
 
 -- an element that is taken out is the only node at the top
-one_part : (forest : Forest) → IsElement (first_content forest) → IsOneElement (renumbered 0 (first_tree forest))
+one_part : (forest : Forest) → IsElement (first_content forest) → IsOneElement (numbered_from 0 (first_tree forest))
 one_part empty h = absurd h
 one_part (tree i content kids later) h = h
 

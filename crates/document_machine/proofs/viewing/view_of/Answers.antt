@@ -1,4 +1,4 @@
-use Rattle.std.proofs.Common.{◌≡◌, [], ◌∙◌, arith}
+use Rattle.std.proofs.Common.{[], ◌∙◌, arith}
 use Rattle.document_machine.specs.Shown.{view_parts}
 use Rattle.document_machine.specs.Views.{view_of}
 use Rattle.document_machine.proofs.SeenLemmas.{parts_seen, whole_parts}

@@ -1,7 +1,7 @@
 use Rattle.std.proofs.Common.{◌≡◌, ◌+◌, ◌∷◌, ◌++◌, length, reverse, refl, sym, ap, ◌∙◌, subst, arith}
 use Rattle.dom_forest.specs.declared.entry.Entry.{Entry}
 use Rattle.dom_forest.specs.Chain.{IsChain, IsChainOf, entries_of}
-use Rattle.dom_forest.specs.Spine.{IsSpine, IsSpineOf, noted}
+use Rattle.dom_forest.specs.Spine.{IsSpine, IsSpineOf, with_last_id}
 use Rattle.dom_forest.proofs.Documents.{appended_at}
 use Rattle.dom_forest.proofs.Held.{append_held, head_after, noted_spine}
 use Rattle.dom_forest.proofs.edits.append_node.Goals as goal
@@ -39,9 +39,9 @@ returns-clause-spine c =
     let id_is : c.len-id.result ≡ next = omega (arith, c.len-id.ensures, c.reserve-2.new.self.ok.0, ap length items) in
     let kept = noted_spine x.front x.back row next c.end_of_kids-next.result.0 spine after refl links.once (subst (λ l. IsSpine l next (reverse spine) depth) x.whole c.end_of_kids-next.ensures.spine) in
     subst (IsSpineOf (entries_of c.put.new.chain) (length c.put.new.chain.slots.items))
-    (sym (c.note_last.ensures ∙ ap (λ n. noted c.end_of_kids-next.result.0 n c.reserve.new.self.items) id_is ∙ ap (noted c.end_of_kids-next.result.0 next) c.in_ok-reserve.ensures.items))
-    (subst (λ n. IsSpineOf (entries_of c.put.new.chain) n (noted c.end_of_kids-next.result.0 next spine)) (sym (c.put.ensures.len ∙ ap (λ l. length l + 1) items))
-    (subst (λ l. IsSpineOf l (next + 1) (noted c.end_of_kids-next.result.0 next spine)) (sym h.entries_is) kept))
+    (sym (c.note_last.ensures ∙ ap (λ n. with_last_id c.end_of_kids-next.result.0 n c.reserve.new.self.items) id_is ∙ ap (with_last_id c.end_of_kids-next.result.0 next) c.in_ok-reserve.ensures.items))
+    (subst (λ n. IsSpineOf (entries_of c.put.new.chain) n (with_last_id c.end_of_kids-next.result.0 next spine)) (sym (c.put.ensures.len ∙ ap (λ l. length l + 1) items))
+    (subst (λ l. IsSpineOf l (next + 1) (with_last_id c.end_of_kids-next.result.0 next spine)) (sym h.entries_is) kept))
 
 pub returns-clause-forest : goal.returns-clause-forest
 returns-clause-forest c =

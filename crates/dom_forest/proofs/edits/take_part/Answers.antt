@@ -1,7 +1,7 @@
 use Rattle.std.proofs.Common.{◌+◌, [], length, map, refl, sym, ap, ◌∙◌, subst, arith}
 use Rattle.std.proofs.lemmas.List.{append-nil}
 use Rattle.dom_forest.specs.Chain.{IsChainOf, entries_of}
-use Rattle.dom_forest.specs.Flat.{renumbered_entries, shifted}
+use Rattle.dom_forest.specs.Flat.{renumbered_entries, shifted_entry}
 use Rattle.dom_forest.specs.Spine.{IsSpineOf}
 use Rattle.dom_forest.proofs.Held.{part_after, part_count, part_fits, part_halves, part_held, part_run, part_size, rest_held, rest_spine}
 use Rattle.dom_forest.proofs.Parts.{spanned}
@@ -52,7 +52,7 @@ returns-clause-part c =
     let rest = rest_held es place c.args.many c.args.depth c.args.id next doc x c.move_run.new.part c.move_run.ensures.ids (c.move_run.ensures.part x.front run after links refl size) in
     let fits = part_fits es place c.args.many c.args.depth c.args.id next doc x (length es) (omega arith) (omega (arith, c.requires.held.links.within, old.slots.small, old.slots.ok.0, old.slots.ok.1)) in
     let both = c.move_run.ensures.chain x.front run after links refl size fits [] [] c.requires.part refl in
-    let new_is = append-nil (renumbered_entries (length c.args.part.now.slots.items) (map (shifted c.args.depth 0) run)) ∙ ap (λ n. renumbered_entries n (map (shifted c.args.depth 0) run)) c.requires.fresh in
+    let new_is = append-nil (renumbered_entries (length c.args.part.now.slots.items) (map (shifted_entry c.args.depth 0) run)) ∙ ap (λ n. renumbered_entries n (map (shifted_entry c.args.depth 0) run)) c.requires.fresh in
     let part = part_held es place c.args.many c.args.depth c.args.id next doc x c.move_run.new.chain (omega (arith, both.1, c.requires.fresh)) (subst (IsChainOf c.move_run.new.chain) new_is both.0) in
     part.held
 
@@ -71,7 +71,7 @@ returns-clause-tree c =
     let rest = rest_held es place c.args.many c.args.depth c.args.id next doc x c.move_run.new.part c.move_run.ensures.ids (c.move_run.ensures.part x.front run after links refl size) in
     let fits = part_fits es place c.args.many c.args.depth c.args.id next doc x (length es) (omega arith) (omega (arith, c.requires.held.links.within, old.slots.small, old.slots.ok.0, old.slots.ok.1)) in
     let both = c.move_run.ensures.chain x.front run after links refl size fits [] [] c.requires.part refl in
-    let new_is = append-nil (renumbered_entries (length c.args.part.now.slots.items) (map (shifted c.args.depth 0) run)) ∙ ap (λ n. renumbered_entries n (map (shifted c.args.depth 0) run)) c.requires.fresh in
+    let new_is = append-nil (renumbered_entries (length c.args.part.now.slots.items) (map (shifted_entry c.args.depth 0) run)) ∙ ap (λ n. renumbered_entries n (map (shifted_entry c.args.depth 0) run)) c.requires.fresh in
     let part = part_held es place c.args.many c.args.depth c.args.id next doc x c.move_run.new.chain (omega (arith, both.1, c.requires.fresh)) (subst (IsChainOf c.move_run.new.chain) new_is both.0) in
     part.forest_is
 
@@ -90,7 +90,7 @@ returns-clause-size c =
     let rest = rest_held es place c.args.many c.args.depth c.args.id next doc x c.move_run.new.part c.move_run.ensures.ids (c.move_run.ensures.part x.front run after links refl size) in
     let fits = part_fits es place c.args.many c.args.depth c.args.id next doc x (length es) (omega arith) (omega (arith, c.requires.held.links.within, old.slots.small, old.slots.ok.0, old.slots.ok.1)) in
     let both = c.move_run.ensures.chain x.front run after links refl size fits [] [] c.requires.part refl in
-    let new_is = append-nil (renumbered_entries (length c.args.part.now.slots.items) (map (shifted c.args.depth 0) run)) ∙ ap (λ n. renumbered_entries n (map (shifted c.args.depth 0) run)) c.requires.fresh in
+    let new_is = append-nil (renumbered_entries (length c.args.part.now.slots.items) (map (shifted_entry c.args.depth 0) run)) ∙ ap (λ n. renumbered_entries n (map (shifted_entry c.args.depth 0) run)) c.requires.fresh in
     let part = part_held es place c.args.many c.args.depth c.args.id next doc x c.move_run.new.chain (omega (arith, both.1, c.requires.fresh)) (subst (IsChainOf c.move_run.new.chain) new_is both.0) in
     omega (arith, both.1, c.requires.fresh, part_count es place c.args.many c.args.depth c.args.id next doc x)
 

@@ -2,7 +2,7 @@ use Rattle.std.proofs.Common.{◌≡◌, Bool, ℕ, Option, None, Some, if◌the
 use Rattle.std.specs.Bool.{then_some}
 use Rattle.std.proofs.lemmas.Bool.{cond-true, cond-false, eq-eqb, ne_eqb, lt-ltb, le-ltb, cases_eq}
 use Rattle.dom_forest.specs.Chain.{entries_of, entry_in, last_id, up_to}
-use Rattle.dom_forest.specs.Runs.{kept, previous_step}
+use Rattle.dom_forest.specs.Runs.{id_after, previous_step}
 use Rattle.dom_forest.proofs.Steps.{before_there, kept_last}
 use Rattle.dom_forest.proofs.entry.previous_before.Goals as goal
 
@@ -26,7 +26,7 @@ pub returns-then-slot-depth : goal.returns-then-slot-depth
 returns-then-slot-depth c =
     let es = entries_of c.args.chain.now in
     let slot = c.in-Some-slot_of.slot.now in
-    let above = kept (previous_step c.args.depth) None (up_to slot.previous es) in
+    let above = id_after (previous_step c.args.depth) None (up_to slot.previous es) in
     let step = kept_last (previous_step c.args.depth) (up_to c.loop-before.before es) (up_to slot.previous es) (entry_in c.in-Some.id slot) (ap (λ o. up_to o es) c.in-Some.is ∙ c.in-Some-slot_of.ensures.found.to) in
     (c.then_some.ensures ∙ then_some_is _ c.in-Some.id ∙ no_deeper slot.depth c.args.depth c.in-Some.id above c.if-slot-depth.true) ∙ sym step ∙ c.loop-before.invariant.0
 
@@ -34,6 +34,6 @@ pub loop-before-preserved : goal.loop-before-preserved
 loop-before-preserved c =
     let es = entries_of c.args.chain.now in
     let slot = c.in-Some-slot_of.slot.now in
-    let above = kept (previous_step c.args.depth) None (up_to slot.previous es) in
+    let above = id_after (previous_step c.args.depth) None (up_to slot.previous es) in
     let step = kept_last (previous_step c.args.depth) (up_to c.loop-before.before es) (up_to slot.previous es) (entry_in c.in-Some.id slot) (ap (λ o. up_to o es) c.in-Some.is ∙ c.in-Some-slot_of.ensures.found.to) in
     (sym (cond-false (eqb slot.depth c.args.depth) _ _ (ne_eqb slot.depth c.args.depth (λ same. omega (arith, same, c.if-slot-depth.false))) ∙ cond-false (ltb slot.depth c.args.depth) _ _ (le-ltb slot.depth c.args.depth (omega (arith, c.if-slot-depth.false)))) ∙ sym step ∙ c.loop-before.invariant.0, c.in-Some-slot_of.ensures.found.before)

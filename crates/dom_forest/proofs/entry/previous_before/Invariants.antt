@@ -1,11 +1,11 @@
 use Rattle.std.proofs.Common.{◌≡◌, None, length}
 use Rattle.dom_forest.specs.Chain.{entries_of, last_id, up_to}
-use Rattle.dom_forest.specs.Runs.{kept, previous_step}
+use Rattle.dom_forest.specs.Runs.{id_after, previous_step}
 use Rattle.dom_forest.proofs.entry.previous_before.Given as goal
 
 abbrev pub invariant-loop-before : goal.invariant-loop-before
 invariant-loop-before l =
-    (kept (previous_step l.depth) None (up_to l.before (entries_of l.chain)) ≡ kept (previous_step l.depth) None (up_to l.fn.previous (entries_of l.chain)))
+    (id_after (previous_step l.depth) None (up_to l.before (entries_of l.chain)) ≡ id_after (previous_step l.depth) None (up_to l.fn.previous (entries_of l.chain)))
     × (l.before ≡ last_id None (up_to l.before (entries_of l.chain)))
 
 abbrev pub decreases-loop-before : goal.decreases-loop-before

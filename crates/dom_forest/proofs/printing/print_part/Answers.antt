@@ -1,8 +1,7 @@
-use Rattle.std.proofs.Common.{◌≡◌, ◌++◌, ◌∷◌, reverse, sym, ap, ◌∙◌, append_assoc, true}
+use Rattle.std.proofs.Common.{◌++◌, ◌∷◌, reverse, sym, ap, ◌∙◌, append_assoc, true}
 use Rattle.dom_forest.specs.Documents.{levels_of}
 use Rattle.dom_forest.specs.OpenElements.{bytes_to_end}
 use Rattle.dom_forest.specs.Printing.{text_bytes}
-use Rattle.dom_forest.specs.declared.document.DocPart.TheVariants.{Text}
 use Rattle.dom_forest.proofs.OpenElements.{bytes_to_end-text}
 use Rattle.dom_forest.proofs.printing.print_part.Goals as goal
 

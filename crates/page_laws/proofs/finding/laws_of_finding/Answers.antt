@@ -1,4 +1,4 @@
-use Rattle.page_laws.proofs.FindLemmas.{finds_one, id_count-changed}
+use Rattle.page_laws.proofs.FindLemmas.{finds_one, id_count-with_change}
 use Rattle.page_laws.proofs.NodesLemmas.{element_with-joined, element_with-none, id_count-joined, id_count-zero}
 use Rattle.page_laws.proofs.finding.laws_of_finding.Goals as goal
 
@@ -9,5 +9,5 @@ returns c = record {
   first = element_with-joined;
   one = finds_one;
   joined = id_count-joined;
-  changed = id_count-changed;
+  changed = id_count-with_change;
 }

@@ -1,9 +1,9 @@
 use Rattle.std.proofs.Common.{◌≡◌, ℕ, length, sym, subst, ap, ◌∙◌, arith}
 use Rattle.dom_forest.specs.Chain.{entries_of}
-use Rattle.dom_forest.specs.Edits.{DomState, changed, digest_set, with_digest_at}
+use Rattle.dom_forest.specs.Edits.{DomState, with_change, digest_set, with_digest_at}
 use Rattle.dom_forest.specs.Flat.{forest_of}
 use Rattle.dom_forest.specs.Forest.{Forest, tree, times, content_of, IsElement}
-use Rattle.dom_forest.proofs.There.{there_from_element, changed-same}
+use Rattle.dom_forest.proofs.There.{there_from_element, with_change-same}
 use Rattle.dom_forest.proofs.dom.Dom.set_digest.Goals as goal
 
 abbrev dom_of : Forest → ℕ → DomState
@@ -20,7 +20,7 @@ returns-in_ok-content-clause-ok c =
     let there = there_from_element id forest (subst (λ (d : DomState). IsElement (content_of id d.forest)) (sym c.self.view_is) c.requires) in
     let once : times id forest ≡ 1 = omega (arith, there, c.self.invariant.held.document.numbered.once id) in
     let here = sym c.in-Some.ensures in
-    let same : forest_of (entries_of c.set_content.new.chain) ≡ changed id (λ content kids later. tree id (digest_set c.args.digest content) kids later) forest =
-    c.set_content.ensures.forest ∙ changed-same id forest _ _ _ once here (λ kids later. ap (λ n. tree id n kids later) c.in_ok-content.ensures) in
+    let same : forest_of (entries_of c.set_content.new.chain) ≡ with_change id (λ content kids later. tree id (digest_set c.args.digest content) kids later) forest =
+    c.set_content.ensures.forest ∙ with_change-same id forest _ _ _ once here (λ kids later. ap (λ n. tree id n kids later) c.in_ok-content.ensures) in
     ap (λ (f : Forest). dom_of f (length c.set_content.new.chain.slots.items)) same
-    ∙ ap (dom_of (changed id (λ content kids later. tree id (digest_set c.args.digest content) kids later) forest)) c.set_content.ensures.next ∙ ap (with_digest_at id c.args.digest) c.self.view_is
+    ∙ ap (dom_of (with_change id (λ content kids later. tree id (digest_set c.args.digest content) kids later) forest)) c.set_content.ensures.next ∙ ap (with_digest_at id c.args.digest) c.self.view_is

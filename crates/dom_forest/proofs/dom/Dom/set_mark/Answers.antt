@@ -1,6 +1,6 @@
 use Rattle.std.proofs.Common.{ℕ, length, ap, ◌∙◌, sym, subst}
 use Rattle.dom_forest.specs.Chain.{entries_of}
-use Rattle.dom_forest.specs.Edits.{DomState, changed, with_content}
+use Rattle.dom_forest.specs.Edits.{DomState, with_change, with_content}
 use Rattle.dom_forest.specs.Flat.{forest_of}
 use Rattle.dom_forest.specs.Forest.{Forest, content_of, tree, IsComment}
 use Rattle.dom_forest.specs.declared.node.NewNode.TheVariants.{Comment}
@@ -19,5 +19,5 @@ returns c =
     let id = c.args.node.0 in
     let old = c.self.inside.chain in
     ap (λ f. dom_of f (length c.set_content.new.chain.slots.items)) c.set_content.ensures.forest
-    ∙ ap (dom_of (changed id (λ content kids later. tree id (Comment c.args.mark) kids later) (forest_of (entries_of old)))) c.set_content.ensures.next
+    ∙ ap (dom_of (with_change id (λ content kids later. tree id (Comment c.args.mark) kids later) (forest_of (entries_of old)))) c.set_content.ensures.next
     ∙ ap (with_content id (Comment c.args.mark)) c.self.view_is

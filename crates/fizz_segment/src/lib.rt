@@ -1,0 +1,8 @@
+//! Segments: the parts of a page that are sent by themselves, with where each stands in another.
+#![tactic(auto)]
+
+mod segment;
+mod segments;
+
+pub use segment::{Flags, SegId, SegKind, SegView};
+pub use segments::Segments;

@@ -1,0 +1,5 @@
+pub mod Lists
+pub mod Keeping
+pub mod Views
+pub mod Settling
+pub mod Dropping

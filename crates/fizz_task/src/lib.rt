@@ -1,0 +1,8 @@
+//! Tasks: which can be claimed, which are claimed and under which number, and which wait for a resource.
+#![tactic(auto)]
+
+mod state;
+mod tasks;
+
+pub use state::{Claimed, StaleTask, TaskState};
+pub use tasks::Tasks;

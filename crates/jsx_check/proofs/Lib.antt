@@ -1,0 +1,10 @@
+pub mod ChecksLemmas
+pub mod ComponentsLemmas
+pub mod CountsLemmas
+pub mod DepthsLemmas
+pub mod EventsLemmas
+pub mod FileEventsLemmas
+pub mod FirstsLemmas
+pub mod NamesLemmas
+pub mod NodesLemmas
+pub mod WalkLemmas

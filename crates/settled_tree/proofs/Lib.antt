@@ -1,0 +1,5 @@
+mod NodesLemmas
+mod PlacesLemmas
+mod PartsLemmas
+mod ShownLemmas
+mod WeightsLemmas

@@ -1,0 +1,3 @@
+pub mod Forests
+pub mod Final
+pub mod Layers
