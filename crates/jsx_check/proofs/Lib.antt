@@ -3,6 +3,7 @@ pub mod ComponentsLemmas
 pub mod CountsLemmas
 pub mod DepthsLemmas
 pub mod EventsLemmas
+pub mod FaultsLemmas
 pub mod FileEventsLemmas
 pub mod FirstsLemmas
 pub mod NamesLemmas

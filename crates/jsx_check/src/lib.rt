@@ -7,8 +7,10 @@ mod depth;
 mod event;
 mod fault;
 mod found;
+mod laws;
 mod names;
 mod walk;
 
 pub use checking::check;
 pub use fault::CheckFault;
+pub use laws::one_check_fault;
