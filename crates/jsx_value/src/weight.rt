@@ -109,8 +109,8 @@ fn weigh_position<'a>(
     total: u32,
 ) -> Result<u32, WeighRefused>
     requires { AddsUp (page_of page.now) }
-    ensures same { IfOk result (λ sum. sum + stack_weight (page_of page.now) stack.new
-        ≡ total + (stack_weight (page_of page.now) stack.old + kin_weight (page_of page.now) kin.entry)) }
+    ensures same { IfOk result (λ sum. sum + stack_weight (page_of page.now) stack.new ≡ total
+        + (stack_weight (page_of page.now) stack.old + kin_weight (page_of page.now) kin.entry)) }
     ensures within { IfOk result (λ sum. sum ≤ most_weight) }
     ensures smaller { OnOk result (stack_weight (page_of page.now) stack.new
         < stack_weight (page_of page.now) stack.old + kin_weight (page_of page.now) kin.entry) }

@@ -1,3 +1,4 @@
 pub mod Forests
 pub mod Final
 pub mod Layers
+pub mod Examples

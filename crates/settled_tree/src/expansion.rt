@@ -165,8 +165,8 @@ fn push_child<'a>(
 ) -> Result<(), OutOfMemory>
     requires unfolds { Unfolds (page_of page.now) }
     requires small { kin_weight (page_of page.now) kin.now ≤ most_weight }
-    ensures nodes { OnOk result (nodes.new
-        ≡ nodes.old ++ place_nodes (page_of page.now) (steps.old ++ number ∷ []) (place_of kin.now)) }
+    ensures nodes { OnOk result (nodes.new ≡ nodes.old
+        ++ place_nodes (page_of page.now) (steps.old ++ number ∷ []) (place_of kin.now)) }
     ensures steps { OnOk result (steps.new ≡ steps.old) }
 {
     let child = Kin {

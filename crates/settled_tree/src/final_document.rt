@@ -17,7 +17,8 @@ use std::alloc::Global;
 /// elsewhere. What still waits has failed.
 pub fn final_of(alloc: Global, forest: &Forest) -> Result<Doc, OutOfMemory>
     requires { fails (settled_nodes forest.now.nodes) ≡ [] }
-    ensures { IfOk result (λ doc. nodes_in doc.parts ≡ final_document (settled_nodes forest.now.nodes)) }
+    ensures { IfOk result (λ doc. nodes_in doc.parts
+        ≡ final_document (settled_nodes forest.now.nodes)) }
 {
     let mut parts = Items::new(alloc);
     push_nodes(alloc, &mut parts, forest.nodes.as_slice())?;
@@ -27,7 +28,8 @@ pub fn final_of(alloc: Global, forest: &Forest) -> Result<Doc, OutOfMemory>
 /// The recursion goes down the nodes, of which at most 256 lie in one another.
 #[cycle(shown)]
 fn push_nodes(alloc: Global, parts: &mut Items<DocPart>, nodes: &[FNode]) -> Result<(), OutOfMemory>
-    ensures { OnOk result (parts.new ≡ parts.old ++ parts_of (final_document (settled_nodes nodes.now))) }
+    ensures { OnOk result (parts.new
+        ≡ parts.old ++ parts_of (final_document (settled_nodes nodes.now))) }
 {
     for node in nodes {
         push_node(alloc, parts, node)?;

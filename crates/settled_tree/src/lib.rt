@@ -11,5 +11,8 @@ mod shell;
 pub use expansion::expand;
 pub use final_document::final_of;
 pub use forest::{FNode, Forest};
-pub use laws::laws_of_forests;
+pub use laws::{laws_of_forests, worked_trees};
 pub use shell::shell_failures;
+
+#[cfg(test)]
+mod tests;
