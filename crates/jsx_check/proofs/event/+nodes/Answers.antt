@@ -1,4 +1,4 @@
-use Rattle.std.proofs.Common.{ℕ, ◌+◌, ◌<◌, ◌≤◌, List, [], ◌∷◌, ◌++◌, length, map, refl, sym, ◌∙◌, ap, arith}
+use Rattle.std.proofs.Common.{List, [], ◌∷◌, ◌++◌, map, refl, sym, ◌∙◌, ap, arith}
 use Rattle.std.specs.List.{flat_map}
 use Rattle.jsx_syntax.specs.Rules.{names_of, has_name, html, suspense, component}
 use Rattle.jsx_check.specs.Events.{Event, uses, opens, calls, bounds, all_events, attribute_events, expression_events, node_events}
