@@ -1,8 +1,8 @@
 -- The walk over the events of a file finds the earliest of what is found at its names.
-use Rattle.std.proofs.Common.{◌≡◌, ℕ, Option, None, List, [], ◌∷◌, ◌++◌, reverse, refl, sym, ◌∙◌, ap, append_assoc, append-nil}
+use Rattle.std.proofs.Common.{◌≡◌, ◌⊎◌, inl, inr, ℕ, Bool, true, false, if◌then◌else◌, is_some, Option, Some, None, List, [], ◌∷◌, ◌++◌, reverse, refl, sym, ◌∙◌, ap, subst, append_assoc, append-nil}
 use Rattle.std.specs.List.{flat_map}
 use Rattle.std.proofs.lemmas.List.{reverse-append}
-use Rattle.jsx_syntax.specs.Rules.{binding, definition, expression_sites, property_sites, statement_sites, scope_after, body_sites, texts_of, component_sites, components_sites, sites_of}
+use Rattle.jsx_syntax.specs.Rules.{node_sites, properties_of, binding, definition, expression_sites, property_sites, statement_sites, scope_after, body_sites, texts_of, component_sites, components_sites, sites_of}
 use Rattle.jsx_syntax.specs.declared.expr.Expr.{Expr}
 use Rattle.jsx_syntax.specs.declared.file.Component.{Component}
 use Rattle.jsx_syntax.specs.declared.file.File.{File}
@@ -14,6 +14,8 @@ use Rattle.jsx_check.specs.Firsts.{Decides, earlier, earliest, found_at}
 use Rattle.jsx_check.specs.Events.{Event, ends, binds, after_events, walk_start, expression_events, property_events, statement_events, component_events, file_events, node_events}
 use Rattle.jsx_check.specs.declared.found.Found.{Found}
 use Rattle.jsx_check.specs.declared.walk.Walk.{Walk}
+use Rattle.std.specs.Str.{bytes_eq}
+use Rattle.jsx_check.proofs.CountsLemmas.{bytes_eq-refl}
 use Rattle.jsx_check.proofs.FirstsLemmas.{earliest-IsSound, earliest-IsFirstBroken}
 use Rattle.jsx_check.proofs.EventsLemmas.{finds_both, finds_expression, finds_node, earliest-append, after_events-append}
 
@@ -60,23 +62,24 @@ statement_walk components before scope found (Throw test digest) =
     (walk_at before scope found)
 
 body_walk : (components : List Component) (before scope : List (List ℕ)) (found : Option Found) (stmts : List Stmt) (result : Node) (name : Name)
-    → after_events components (walk_at before scope found) (flat_map statement_events stmts ++ (node_events result ++ ends name ∷ []))
+    → is_some (properties_of name.text components) ≡ true → after_events components (walk_at before scope found) (flat_map statement_events stmts ++ (node_events result ++ ends name ∷ []))
     ≡ walk_at (name.text ∷ before) [] (earliest components found (body_sites before scope stmts result))
-body_walk components before scope found [] result name =
+body_walk components before scope found [] result name known =
     after_events-append components (walk_at before scope found) (node_events result) (ends name ∷ [])
-    ∙ ap (λ (w : Walk). after_events components w (ends name ∷ [])) (finds_node components result (walk_at before scope found))
-body_walk components before scope found (stmt ∷ stmts) result name =
+    ∙ (ap (λ (w : Walk). after_events components w (ends name ∷ [])) (finds_node components result (walk_at before scope found))
+    ∙ ap (λ (b : Bool). walk_at (if b then name.text ∷ before else before) [] (earliest components found (node_sites result (record { before = before; scope = scope; in_fallback = false })))) known)
+body_walk components before scope found (stmt ∷ stmts) result name known =
     let rest : List Event = flat_map statement_events stmts ++ (node_events result ++ ends name ∷ []) in
     ap (after_events components (walk_at before scope found)) (append_assoc (statement_events stmt) (flat_map statement_events stmts) (node_events result ++ ends name ∷ []))
     ∙ (after_events-append components (walk_at before scope found) (statement_events stmt) rest
     ∙ (ap (λ (w : Walk). after_events components w rest) (statement_walk components before scope found stmt)
-    ∙ (body_walk components before (scope_after scope stmt) (earliest components found (statement_sites scope stmt)) stmts result name
+    ∙ (body_walk components before (scope_after scope stmt) (earliest components found (statement_sites scope stmt)) stmts result name known
     ∙ ap (walk_at (name.text ∷ before) []) (sym (earliest-append components found (statement_sites scope stmt) (body_sites before (scope_after scope stmt) stmts result))))))
 
 component_walk : (components : List Component) (before : List (List ℕ)) (found : Option Found) (c : Component)
-    → after_events components (walk_at before [] found) (component_events c)
+    → is_some (properties_of c.name.text components) ≡ true → after_events components (walk_at before [] found) (component_events c)
     ≡ walk_at (c.name.text ∷ before) [] (earliest components found (component_sites before c))
-component_walk components before found c =
+component_walk components before found c known =
     let here : Option Found = earlier found (found_at components (definition c.name before)) in
     let rest : List Event = flat_map statement_events c.stmts ++ (node_events c.result ++ ends c.name ∷ []) in
     let scope : List (List ℕ) = reverse (texts_of c.properties) in
@@ -84,26 +87,46 @@ component_walk components before found c =
     after_events-append components (walk_at before [] here) (property_events c.properties) rest
     ∙ (ap (λ (w : Walk). after_events components w rest) (properties_walk components before [] here c.properties)
     ∙ (ap (λ (s : List (List ℕ)). after_events components (walk_at before s after) rest) (scope_with-is c.properties [] ∙ append-nil scope)
-    ∙ (body_walk components before scope after c.stmts c.result c.name
+    ∙ (body_walk components before scope after c.stmts c.result c.name known
     ∙ ap (walk_at (c.name.text ∷ before) []) (sym (earliest-append components here (property_sites [] c.properties) (body_sites before scope c.stmts c.result))))))
 
 abbrev last_name : List (List ℕ) → List Component → List (List ℕ)
 last_name before [] = before
 last_name before (c ∷ later) = last_name (c.name.text ∷ before) later
 
-components_walk : (components : List Component) (before : List (List ℕ)) (found : Option Found) (later : List Component)
+-- They are components of the file.
+abbrev AllKnown : List Component → List Component → Type 0
+AllKnown components [] = Unit {0}
+AllKnown components (c ∷ later) = (is_some (properties_of c.name.text components) ≡ true) × AllKnown components later
+
+known_here : (b : Bool) (p : List Name) (o : Option (List Name)) → (b ≡ true) ⊎ (is_some o ≡ true) → is_some (if b then Some p else o) ≡ true
+known_here true p o h = refl
+known_here false p o (inl e) = let t : false ≡ true = e in absurd (cc)
+known_here false p o (inr e) = e
+
+known_in : (c : Component) (xs later : List Component) → is_some (properties_of c.name.text (xs ++ c ∷ later)) ≡ true
+known_in c [] later = known_here (bytes_eq c.name.text c.name.text) c.properties (properties_of c.name.text later) (inl (bytes_eq-refl c.name.text))
+known_in c (x ∷ xs) later =
+    known_here (bytes_eq c.name.text x.name.text) x.properties (properties_of c.name.text (xs ++ c ∷ later)) (inr (known_in c xs later))
+
+all_known : (xs later : List Component) → AllKnown (xs ++ later) later
+all_known xs [] = tt
+all_known xs (c ∷ later) =
+    (known_in c xs later, subst (λ (all : List Component). AllKnown all later) (append_assoc xs (c ∷ []) later) (all_known (xs ++ c ∷ []) later))
+
+components_walk : (components : List Component) (before : List (List ℕ)) (found : Option Found) (later : List Component) → AllKnown components later
     → after_events components (walk_at before [] found) (flat_map component_events later)
     ≡ walk_at (last_name before later) [] (earliest components found (components_sites before later))
-components_walk components before found [] = refl
-components_walk components before found (c ∷ later) =
+components_walk components before found [] known = refl
+components_walk components before found (c ∷ later) known =
     after_events-append components (walk_at before [] found) (component_events c) (flat_map component_events later)
-    ∙ (ap (λ (w : Walk). after_events components w (flat_map component_events later)) (component_walk components before found c)
-    ∙ (components_walk components (c.name.text ∷ before) (earliest components found (component_sites before c)) later
+    ∙ (ap (λ (w : Walk). after_events components w (flat_map component_events later)) (component_walk components before found c known.0)
+    ∙ (components_walk components (c.name.text ∷ before) (earliest components found (component_sites before c)) later known.1
     ∙ ap (walk_at (last_name before (c ∷ later)) []) (sym (earliest-append components found (component_sites before c) (components_sites (c.name.text ∷ before) later)))))
 
 -- what the walk over a file finds
 pub file_walk : (file : File) → (after_events file.components walk_start (file_events file)).found ≡ earliest file.components None (sites_of file)
-file_walk file = ap (λ (w : Walk). w.found) (components_walk file.components [] None file.components)
+file_walk file = ap (λ (w : Walk). w.found) (components_walk file.components [] None file.components (all_known [] file.components))
 
 pub walk_decides : (file : File) → Decides file ((after_events file.components walk_start (file_events file)).found)
 walk_decides file = record {

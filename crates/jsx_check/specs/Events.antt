@@ -1,8 +1,8 @@
 -- A file as events in the order of its text, and the walk over them that finds the first broken rule. This is for private
 -- functions.
-use Rattle.std.specs.Prelude.{ℕ, ◌+◌, ◌-◌, Bool, not, nat_lt, if◌then◌else◌, List, [], ◌∷◌, ◌++◌, map, drop, Option, Some, None}
+use Rattle.std.specs.Prelude.{◌≡◌, ℕ, ◌+◌, ◌-◌, Bool, true, not, nat_lt, if◌then◌else◌, List, [], ◌∷◌, ◌++◌, map, drop, Option, Some, None, is_some}
 use Rattle.std.specs.List.{flat_map}
-use Rattle.jsx_syntax.specs.Rules.{Owner, html, suspense, component, definition, variable, binding, element, call, boundary, has_name, is_fallback_of, is_known_attribute, names_of}
+use Rattle.jsx_syntax.specs.Rules.{Owner, html, suspense, component, definition, variable, binding, element, call, boundary, has_name, is_fallback_of, is_known_attribute, names_of, properties_of}
 use Rattle.jsx_syntax.specs.declared.expr.Expr.{Expr}
 use Rattle.jsx_syntax.specs.declared.file.Component.{Component}
 use Rattle.jsx_syntax.specs.declared.file.File.{File}
@@ -98,6 +98,14 @@ with_found walk found = record walk { found = earlier walk.found found }
 abbrev pub in_fallback : Walk → Bool
 in_fallback walk = nat_lt 0 walk.fallbacks
 
+-- the names of the components that ended, and one more: those of the file
+abbrev pub with_component : List Component → List ℕ → List (List ℕ) → List (List ℕ)
+with_component components name before = if is_some (properties_of name components) then name ∷ before else before
+
+-- They are names of the file.
+abbrev pub AreKnown : List Component → List (List ℕ) → Type 0
+AreKnown components before = (name : List ℕ) → has_name name before ≡ true → is_some (properties_of name components) ≡ true
+
 -- before the first event
 abbrev pub walk_start : Walk
 walk_start = record { before = []; scope = []; fallbacks = 0; found = None }
@@ -105,7 +113,7 @@ walk_start = record { before = []; scope = []; fallbacks = 0; found = None }
 -- what an event does
 abbrev pub after_event : List Component → Walk → Event → Walk
 after_event components walk (defines name) = with_found walk (found_at components (definition name walk.before))
-after_event components walk (ends name) = record walk { before = name.text ∷ walk.before; scope = [] }
+after_event components walk (ends name) = record walk { before = with_component components name.text walk.before; scope = [] }
 after_event components walk (uses name) = with_found walk (found_at components (variable name walk.scope))
 after_event components walk (binds name) =
     record (with_found walk (found_at components (binding name walk.scope))) { scope = name.text ∷ walk.scope }

@@ -1,7 +1,7 @@
 //! The components of a file, found by their names.
 
 ghost use Rattle.std.specs.Prelude.{◌≡◌, [], ◌∷◌, ◌++◌, ◌||◌, List, OnOk, IfOk, is_some};
-ghost use Rattle.jsx_syntax.specs.Rules.{has_property, is_key, is_known_attribute, properties_of};
+ghost use Rattle.jsx_syntax.specs.Rules.{has_property, is_fallback_of, is_key, is_known_attribute, properties_of, suspense};
 ghost use Rattle.jsx_syntax.specs.declared.file.Component.{Component};
 ghost use Rattle.jsx_check.specs.SeenEvents.{owner_of};
 ghost use Rattle.jsx_check.specs.SeenNames.{Knows, texts_onto};
@@ -79,7 +79,7 @@ impl<'a> Components<'a> {
 
 /// Whether it is the attribute of `Suspense` whose value is the fallback.
 pub fn is_fallback(name: &Text) -> bool
-    ensures { result ≡ Rattle.jsx_syntax.specs.Rules.is_fallback_of Rattle.jsx_syntax.specs.Rules.suspense name.now }
+    ensures { result ≡ is_fallback_of suspense name.now }
 {
     name.as_bytes() == b"fallback".as_slice()
 }

@@ -37,7 +37,8 @@ fn add<'a>(depths: &mut BTreeMap<&'a str, u32>, component: &'a Component) -> Res
 
 /// The depth of the component of a name.
 fn depth_at(depths: &BTreeMap<&str, u32>, name: &str) -> u32
-    ensures { (called : List ℕ → ℕ) → Tells depths.now called → result ≡ told_as (called name.now) }
+    ensures { (called : List ℕ → ℕ) → Tells depths.now called →
+        result ≡ told_as (called name.now) }
 {
     depths.get(name).copied().unwrap_or(0)
 }

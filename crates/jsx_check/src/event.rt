@@ -262,10 +262,15 @@ fn push_props<'a>(
         ++ attribute_events (owner_of owner.entry) [] (map (of_entry node_events) props.now)) }
 {
     let mut earlier = Names::new(alloc);
+    let mut left = props.len();
     for prop in props {
         let twice = earlier.has(&prop.name.text);
         push_prop(alloc, out, owner, twice, &prop.name, &prop.value)?;
-        earlier.push(&prop.name.text)?;
+        left -= 1;
+        // Nothing is kept of the last, so that one attribute takes no memory.
+        if left > 0 {
+            earlier.push(&prop.name.text)?;
+        }
     }
     Ok(())
 }

@@ -11,5 +11,6 @@ ghost use Rattle.jsx_check.specs.declared.fault.CheckFault.TheVariants.{OutOfMem
 pub fn one_check_fault()
     ensures one { (file : File) (a b : CheckFault) → IsFaultOf file a → IsFaultOf file b →
         (a ≡ Memory) ⊎ (b ≡ Memory) ⊎ (a ≡ b) }
-    ensures none { (file : File) (a : CheckFault) → IsApp file → IsFaultOf file a → a ≡ Memory }
+    ensures none { (file : File) (a : CheckFault) →
+        IsApp file → IsFaultOf file a → a ≡ Memory }
 {}

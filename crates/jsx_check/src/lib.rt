@@ -14,3 +14,6 @@ mod walk;
 pub use checking::check;
 pub use fault::CheckFault;
 pub use laws::one_check_fault;
+
+#[cfg(test)]
+mod tests;

@@ -1,7 +1,8 @@
 //! The walk over a file's events that finds the first broken rule.
 
-ghost use Rattle.std.specs.Prelude.{◌≡◌, ◌+◌, ◌<◌, ◌^◌, [], if◌then◌else◌, Some, None, IfOk, OnOk};
-ghost use Rattle.jsx_check.specs.Events.{after_event, attribute_rule, binds, bounds, call_rule, calls, defines, ends, opens, uses, walk_start, with_found};
+ghost use Rattle.std.specs.Prelude.{◌≡◌, ◌+◌, ◌<◌, ◌^◌, [], true, if◌then◌else◌, is_some, Some, None, IfOk, OnOk};
+ghost use Rattle.jsx_syntax.specs.Rules.{properties_of};
+ghost use Rattle.jsx_check.specs.Events.{AreKnown, after_event, attribute_rule, binds, bounds, call_rule, calls, defines, ends, opens, uses, walk_start, with_found};
 ghost use Rattle.jsx_check.specs.Firsts.{Decides, found_by};
 ghost use Rattle.jsx_check.specs.SeenEvents.{event_of, found_after};
 
@@ -17,7 +18,7 @@ use std::alloc::Global;
 /// What the walk knows after some events.
 #[derive(Drop)]
 pub struct Walk<'a> {
-    /// The components that ended.
+    /// The components of the file that ended.
     pub before: Names<'a>,
     /// The names in scope.
     pub scope: Names<'a>,
@@ -70,13 +71,14 @@ fn step<'a>(
     walk: &mut Walk<'a>,
     event: Event<'a>,
 ) -> Result<(), OutOfMemory>
-    requires { walk.old.fallbacks + 1 < 2 ^ 64 }
+    requires room { walk.old.fallbacks + 1 < 2 ^ 64 }
+    requires known { AreKnown components.now walk.old.before }
     ensures { OnOk result (walk.new
         ≡ after_event components.now walk.old (event_of event.entry)) }
 {
     match event {
         Event::Defines(name) => define(walk, name),
-        Event::Ends(name) => return end(walk, name),
+        Event::Ends(name) => return end(components, walk, name),
         Event::Uses(name) => use_name(walk, name),
         Event::Binds(name) => return bind(walk, name),
         Event::Unbinds => return walk.scope.pop(),
@@ -118,11 +120,17 @@ fn define(walk: &mut Walk, name: &Name)
     note(walk, name, rule_if(taken, Rule::TwiceDefined));
 }
 
-fn end<'a>(walk: &mut Walk<'a>, name: &'a Name) -> Result<(), OutOfMemory>
-    ensures { OnOk result (walk.new ≡ after_event [] walk.old (ends name.now)) }
+fn end<'a>(
+    components: &Components<'a>,
+    walk: &mut Walk<'a>,
+    name: &'a Name,
+) -> Result<(), OutOfMemory>
+    ensures { OnOk result (walk.new ≡ after_event components.now walk.old (ends name.now)) }
 {
-    walk.before.push(&name.text)?;
     walk.scope.clear();
+    if components.has(&name.text) {
+        walk.before.push(&name.text)?;
+    }
     Ok(())
 }
 
@@ -149,11 +157,23 @@ fn open(walk: &mut Walk, name: &Name)
 }
 
 fn call<'a>(components: &Components<'a>, walk: &mut Walk<'a>, name: &Name)
+    requires { AreKnown components.now walk.old.before }
     ensures { walk.new ≡ after_event components.now walk.old (calls name.now) }
 {
-    let known = components.has(&name.text);
     let defined = walk.before.has(&name.text);
+    let known = is_known(components, name, defined);
     note(walk, name, call_rule(known, defined, walk.fallbacks > 0));
+}
+
+/// Whether there is a component of this name. One that is defined before needs no other look.
+fn is_known<'a>(components: &Components<'a>, name: &Name, defined: bool) -> bool
+    requires { defined ≡ true → is_some (properties_of name.now.text components.now) ≡ true }
+    ensures { result ≡ is_some (properties_of name.now.text components.now) }
+{
+    if defined {
+        return true;
+    }
+    components.has(&name.text)
 }
 
 fn bound(walk: &mut Walk, name: &Name)

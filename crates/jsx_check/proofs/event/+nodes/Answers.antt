@@ -1,4 +1,4 @@
-use Rattle.std.proofs.Common.{List, [], ◌∷◌, ◌++◌, map, refl, sym, ◌∙◌, ap}
+use Rattle.std.proofs.Common.{List, [], ◌∷◌, ◌++◌, map, refl, sym, ◌∙◌, ap, arith}
 use Rattle.std.specs.List.{flat_map}
 use Rattle.jsx_syntax.specs.Rules.{names_of, has_name, html, suspense, component}
 use Rattle.jsx_check.specs.Events.{Event, uses, opens, calls, bounds, all_events, attribute_events, expression_events, node_events}
@@ -6,6 +6,7 @@ use Rattle.jsx_check.specs.SeenEvents.{event_of, of_entry, owner_of, bind_events
 use Rattle.jsx_check.proofs.NamesLemmas.{on_ok}
 use Rattle.jsx_check.proofs.NodesLemmas.{pushed, map-uses, map_events-is, attributes_on, names_onto-more, node_events-And, node_events-Or, node_events-Map, node_events-Host, node_events-Call, node_events-Suspense}
 use Rattle.jsx_check.proofs.event.+nodes.Goals as goal
+use Rattle.jsx_check.proofs.event.+nodes.Goals.{push_props-then-left-gt0+in_ok-push, push_props-else-left-gt0}
 
 pub push_node-returns-in_ok-push_all_names-in-And : goal.push_node-returns-in_ok-push_all_names-in-And
 push_node-returns-in_ok-push_all_names-in-And t c =
@@ -89,13 +90,18 @@ push_node-returns-in_ok-push_props-in-Suspense t c =
 
 pub push_props-loop-prop-preserved : goal.push_props-loop-prop-preserved
 push_props-loop-prop-preserved t c = record {
-  names = c.in_ok-push.ensures
-      ∙ (ap (λ names. c.prop-item.result.name.text ∷ names) c.loop-prop.invariant.names
-      ∙ sym (names_onto-more c.args.props.now c.loop-prop.prop-index c.prop-item.result c.loop-prop-test.true (sym c.prop-item.is)));
+  count = omega (arith, c.loop-prop.invariant.count, c.loop-prop-test.true);
+  names = λ more. elim c.if-left-gt0.branch [
+    | push_props-then-left-gt0+in_ok-push w ↦ w.earlier-is
+        ∙ (w.in_ok-push.ensures
+        ∙ (ap (λ names. c.prop-item.result.name.text ∷ names) (c.loop-prop.invariant.names c.loop-prop-test.true)
+        ∙ sym (names_onto-more c.args.props.now c.loop-prop.prop-index c.prop-item.result c.loop-prop-test.true (sym c.prop-item.is))))
+    | push_props-else-left-gt0 w ↦ absurd (omega (arith, w.if-left-gt0.false, c.loop-prop.invariant.count, more))
+  ];
   left = attributes_on (owner_of c.args.owner) c.args.props.now c.loop-prop.prop-index c.prop-item.result c.has-twice.result
       (map event_of c.loop-prop.out.items) (map event_of c.push_prop.new.out.items)
       (map event_of c.args.out.now.items ++ attribute_events (owner_of c.args.owner) [] (map (of_entry node_events) c.args.props.now))
       c.loop-prop-test.true (sym c.prop-item.is)
-      (c.has-twice.ensures ∙ ap (has_name c.prop-item.result.name.text) c.loop-prop.invariant.names)
+      (c.has-twice.ensures ∙ ap (has_name c.prop-item.result.name.text) (c.loop-prop.invariant.names c.loop-prop-test.true))
       c.in_ok-push_prop.ensures c.loop-prop.invariant.left;
 }

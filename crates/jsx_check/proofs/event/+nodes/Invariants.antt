@@ -1,4 +1,4 @@
-use Rattle.std.proofs.Common.{◌≡◌, [], ◌++◌, map, drop, take}
+use Rattle.std.proofs.Common.{◌≡◌, ◌+◌, ◌<◌, [], ◌++◌, length, map, drop, take}
 use Rattle.jsx_check.specs.Events.{all_events, attribute_events, node_events}
 use Rattle.jsx_check.specs.SeenEvents.{event_of, names_onto, of_entry, owner_of}
 use Rattle.jsx_check.proofs.event.+nodes.Given as goal
@@ -11,7 +11,8 @@ invariant-push_nodes-loop-node l =
 
 abbrev pub invariant-push_props-loop-prop : goal.invariant-push_props-loop-prop
 invariant-push_props-loop-prop l = record {
-  names : l.earlier ≡ names_onto [] (take l.prop-index l.props);
+  count : l.left + l.prop-index ≡ length l.props;
+  names : l.prop-index < length l.props → l.earlier ≡ names_onto [] (take l.prop-index l.props);
   left : map event_of l.out.items
       ++ attribute_events (owner_of l.owner) (names_onto [] (take l.prop-index l.props)) (map (of_entry node_events) (drop l.prop-index l.props))
       ≡ map event_of l.fn.out.items ++ attribute_events (owner_of l.owner) [] (map (of_entry node_events) l.props);
