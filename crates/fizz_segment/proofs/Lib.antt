@@ -1,1 +1,4 @@
 pub mod Kids
+pub mod Extremes
+pub mod Kinship
+pub mod LinkLemmas

@@ -1,6 +1,8 @@
 //! Segments: the parts of a page that are sent by themselves, with where each stands in another.
 #![tactic(auto)]
 
+mod linking;
+mod links;
 mod segment;
 mod segments;
 
