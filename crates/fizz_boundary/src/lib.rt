@@ -8,3 +8,6 @@ mod places;
 pub use boundaries::Boundaries;
 pub use boundary::{BoundaryView, Part, Status};
 pub use places::{HolePlace, Place, Places};
+
+#[cfg(test)]
+mod tests;

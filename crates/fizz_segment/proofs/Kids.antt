@@ -1,6 +1,7 @@
 -- The kids of a segment, by their numbers.
 use Rattle.std.proofs.Common.{◌≡◌, ℕ, zero, suc, ◌+◌, ◌<◌, true, eqb, Option, Some, None, List, [], ◌∷◌, length, drop, get_or, inl, inr, refl, sym, ap, ◌∙◌, subst, arith}
-use Rattle.std.proofs.lemmas.Bool.{cond-true, cond-false, cases_Bool, cases_lt, eq-eqb, ne_eqb}
+use Rattle.std.proofs.lemmas.Bool.{cond-true, cond-false, cases_Bool, cases_lt, eq-eqb, false≢true, ne_eqb}
+use Rattle.std.specs.Option.{is_some}
 use Rattle.std.proofs.lemmas.List.{get_or_past}
 use Rattle.fizz_segment.specs.declared.segment.Part.{Part}
 use Rattle.fizz_segment.specs.Tree.{after, first_of, is_kid, is_parent, kids_from, kids_of}
@@ -37,7 +38,7 @@ after_own id parts i below kid =
     subst (λ n. after (0 + i) (kids_of parts id) ≡ kids_from id (0 + i + 1) (drop n parts)) one (after_kid id 0 parts i below kid) in
     sym (subst (λ n. after n (kids_of parts id) ≡ kids_from id (n + 1) (drop (i + 1) parts)) none found)
 
-inside : (parts : List (Option Part)) (id : ℕ) (part : Part) → get_or parts id None ≡ Some part → id < length parts
+pub inside : (parts : List (Option Part)) (id : ℕ) (part : Part) → get_or parts id None ≡ Some part → id < length parts
 inside parts id part live = elim (cases_lt id (length parts)) [
   | inl below ↦ below
   | inr past ↦ absurd (apart (get_or parts id None) part live (get_or_past parts id None past))
@@ -53,3 +54,10 @@ following parts id parent part live own =
     let kid : is_kid parent (get_or parts id None) ≡ true =
     ap (is_kid parent) live ∙ ap (is_parent parent) own ∙ eq-eqb parent parent refl in
     ap first_of (after_own parent parts id (inside parts id part live) kid)
+
+pub live_inside : (parts : List (Option Part)) (id : ℕ) → is_some (get_or parts id None) ≡ true → id < length parts
+live_inside parts id live = by_part (get_or parts id None) refl live
+  where
+    by_part : (o : Option Part) → get_or parts id None ≡ o → is_some o ≡ true → id < length parts
+    by_part None is some = absurd (false≢true some)
+    by_part (Some part) is some = inside parts id part is

@@ -1,3 +1,5 @@
 pub mod Tree
 pub mod Calls
 pub mod Views
+pub mod Nearest
+pub mod Linked

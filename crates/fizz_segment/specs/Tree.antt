@@ -1,5 +1,5 @@
 -- What segments are to those who use them: plain data.
-use Rattle.std.specs.Prelude.{◌≡◌, ◌+◌, ◌<◌, ◌^◌, ◌==◌, ℕ, Bool, false, if◌then◌else◌, List, [], ◌∷◌, length, slice_index_or, Option, Some, None}
+use Rattle.std.specs.Prelude.{true, ◌++◌, ◌≡◌, ◌+◌, ◌<◌, ◌^◌, ◌==◌, ℕ, Bool, false, if◌then◌else◌, List, [], ◌∷◌, length, slice_index_or, Option, Some, None}
 use Rattle.fizz_segment.specs.declared.segment.Flags.{Flags}
 use Rattle.fizz_segment.specs.declared.segment.Part.{Part}
 use Rattle.fizz_segment.specs.declared.segment.Mark.{Mark}
@@ -62,3 +62,8 @@ pub record IsTree (tree : Tree) : Type 0 where
   pub marked : length tree.marks ≡ length tree.parts
   -- so every number that a segment can get is below 4,294,967,295
   pub few : length tree.parts + tree.spare < 2 ^ 32
+
+-- what stands behind a kid is what is after it, and it is one
+pub record IsKidThere (parts : List (Option Part)) (id kid : ℕ) (all later : List ℕ) : Type 0 where
+  pub is_later : after kid all ≡ later
+  pub is_one : is_kid id (part_at parts kid) ≡ true

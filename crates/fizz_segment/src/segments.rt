@@ -1,26 +1,33 @@
 ghost use Rattle.std.specs.Prelude.{◌≡◌, ◌+◌, ◌<◌, ◌^◌, ◌↔◌, length, false, true, drop, IsTrue, OnOk, OnErr, Some, None};
 ghost use Rattle.std.specs.Option.{option_copied};
-ghost use Rattle.fizz_segment.specs.Tree.{first_of, is_kid, kids_from, next_of, part_at};
-ghost use Rattle.fizz_segment.specs.Calls.{is_complete};
+ghost use Rattle.fizz_segment.specs.Tree.{part_at};
+ghost use Rattle.fizz_segment.specs.Linked.{IsMadeBefore};
+ghost use Rattle.fizz_segment.specs.declared.segment.Part.{Part};
+ghost use Rattle.fizz_segment.specs.Calls.{is_complete, with_bytes};
 
+use crate::linking;
+use crate::links::Links;
 use crate::segment::{Flags, Mark, Part, SegId, SegKind, SegView};
 use fizz_text::OutOfMemory;
 use sqlite_items::Items;
 use std::alloc::Global;
 use std::marker::Model;
 
-/// The segments of a page, numbered in the order in which they were made. No call but `reserve` takes memory.
+/// The segments of a page, numbered in the order in which they were made. No call but `reserve` takes memory, and each
+/// other call takes constant time: the live kids of a segment are linked, in the order in which they were added.
 #[derive(Debug, Drop)]
 pub struct Segments {
     /// `None` where a segment is forgotten.
     parts: Vec<Option<Part>>,
     marks: Vec<Mark>,
+    links: Links,
     spare: u32,
 }
 
 impl Model for Segments {
     ghost use Rattle.std.specs.Prelude.{◌+◌, ◌<◌, ◌≤◌, ◌^◌, length, vec_capacity};
     ghost use Rattle.fizz_segment.specs.Tree.{Tree, IsTree};
+    ghost use Rattle.fizz_segment.specs.Linked.{AreLinked, HasLinkRoom};
 
     ghost Value = { Tree };
 
@@ -28,7 +35,9 @@ impl Model for Segments {
 
     ghost invariant = { λ s. IsTree (record { parts = s.parts.items; marks = s.marks.items; spare = s.spare })
         × (length s.parts.items + s.spare ≤ vec_capacity s.parts)
-        × (length s.parts.items + s.spare ≤ vec_capacity s.marks) };
+        × (length s.parts.items + s.spare ≤ vec_capacity s.marks)
+        × AreLinked s.parts.items s.links
+        × HasLinkRoom (length s.parts.items + s.spare) s.links };
 }
 
 impl Segments {
@@ -44,6 +53,7 @@ impl Segments {
         Segments {
             parts: Vec::new(alloc),
             marks: Vec::new(alloc),
+            links: linking::no_links(alloc),
             spare: 0,
         }
     }
@@ -59,6 +69,7 @@ impl Segments {
         }
         self.parts.reserve(n as usize)?;
         self.marks.reserve(n as usize)?;
+        linking::reserve(&mut self.links, n as usize)?;
         self.spare = n;
         Ok(())
     }
@@ -72,11 +83,13 @@ impl Segments {
     }
 
     fn add(&mut self, part: Part, flags: Flags) -> SegId
-        requires { 0 < self.old.spare }
+        requires spare { 0 < self.old.spare }
+        requires parent { IsMadeBefore (length self.old.parts) part.parent }
         ensures number { result ≡ length self.old.parts }
         ensures added { self.new ≡ added part flags self.old }
     {
-        let id = SegId(self.parts.len() as u32);
+        let id = self.parts.len() as u32;
+        linking::add(&mut self.links, number(part.parent), id);
         self.parts.push_reserved(Some(part));
         self.marks.push_reserved(Mark {
             flags,
@@ -84,7 +97,7 @@ impl Segments {
             printed: false,
         });
         self.spare -= 1;
-        id
+        SegId(id)
     }
 
     /// Makes a segment that was cut out of its parent at a place.
@@ -152,20 +165,20 @@ impl Segments {
         ensures { IsViewOf self.now id result }
     {
         let index = id.0 as usize;
-        let first = kid_from(&self.parts, id, 0);
         let mark = self.marks[index];
         match &self.parts[index] {
             None => unreachable!(),
             Some(part) => {
-                let next = next_kid(&self.parts, part, id);
+                let first = linking::first(&self.links, id.0);
+                let next = linking::next(&self.links, number(part.parent), id.0);
                 SegView {
                     kind: part.kind,
                     parent: part.parent,
                     at: part.at,
                     flags: mark.flags,
                     bytes: bytes_of(part),
-                    first,
-                    next,
+                    first: named(first),
+                    next: named(next),
                     drawn: mark.drawn,
                     printed: mark.printed,
                 }
@@ -216,9 +229,7 @@ impl Segments {
         ensures { self.new ≡ completed id flags bytes.items self.old }
     {
         let index = id.0 as usize;
-        if let Some(part) = &mut self.parts[index] {
-            part.bytes = Some(Items::from_vec(bytes));
-        }
+        put_bytes(&mut self.parts[index], bytes);
         self.marks[index].flags = flags;
     }
 
@@ -227,6 +238,8 @@ impl Segments {
         requires { IsLive self.old id }
         ensures { self.new ≡ forgotten id self.old }
     {
+        let parent = parent_of(&self.parts[id.0 as usize]);
+        linking::remove(&mut self.links, parent, id.0);
         self.parts[id.0 as usize] = None;
     }
 }
@@ -249,41 +262,37 @@ fn bytes_of(part: &Part) -> Option<&[u8]>
     }
 }
 
-fn is_kid_of(part: &Option<Part>, parent: SegId) -> bool
-    ensures { result ≡ is_kid parent part.now }
+fn put_bytes(part: &mut Option<Part>, bytes: Vec<u8>)
+    ensures { part.new ≡ with_bytes bytes.items part.old }
+{
+    if let Some(part) = part {
+        part.bytes = Some(Items::from_vec(bytes));
+    }
+}
+
+fn parent_of(part: &Option<Part>) -> Option<u32>
+    ensures { (own : Part) → part.now ≡ Some own → result ≡ own.parent }
 {
     match part {
-        Some(part) => match part.parent {
-            Some(own) => parent.0 == own.0,
-            None => false,
-        },
-        None => false,
-    }
-}
-
-/// The first live segment from a number on that has this parent.
-fn kid_from(parts: &[Option<Part>], parent: SegId, from: usize) -> Option<SegId>
-    requires { length parts.now < 2 ^ 32 }
-    ensures { result ≡ first_of (kids_from parent from (drop from parts.now)) }
-{
-    let mut id = from;
-    while id < parts.len() {
-        if is_kid_of(&parts[id], parent) {
-            return Some(SegId(id as u32));
-        }
-        id += 1;
-    }
-    None
-}
-
-/// The live segment that follows one of the same parent.
-fn next_kid(parts: &[Option<Part>], part: &Part, id: SegId) -> Option<SegId>
-    requires few { length parts.now < 2 ^ 32 }
-    requires live { part_at parts.now id ≡ Some part.now }
-    ensures { result ≡ next_of parts.now part.now.parent id }
-{
-    match part.parent {
+        Some(part) => number(part.parent),
         None => None,
-        Some(parent) => kid_from(parts, parent, id.0 as usize + 1),
+    }
+}
+
+fn number(id: Option<SegId>) -> Option<u32>
+    ensures { result ≡ id }
+{
+    match id {
+        Some(id) => Some(id.0),
+        None => None,
+    }
+}
+
+fn named(number: Option<u32>) -> Option<SegId>
+    ensures { result ≡ number }
+{
+    match number {
+        Some(number) => Some(SegId(number)),
+        None => None,
     }
 }

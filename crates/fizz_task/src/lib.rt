@@ -6,3 +6,6 @@ mod tasks;
 
 pub use state::{Claimed, StaleTask, TaskState};
 pub use tasks::Tasks;
+
+#[cfg(test)]
+mod tests;

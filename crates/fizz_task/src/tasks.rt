@@ -208,7 +208,8 @@ impl<W: Drop> Tasks<W> {
         Ok(())
     }
 
-    /// Makes all tasks that wait for a resource runnable, in ascending order. Their count is answered.
+    /// Makes all tasks that wait for a resource runnable, in ascending order. Their count is answered. It takes time in
+    /// proportion to the tasks that were made.
     pub fn settle(&mut self, name: &Text) -> u32
         ensures count { result ≡ length (waiters name.now self.old.states) }
         ensures settled { self.new ≡ settled name.now self.old }
