@@ -6,6 +6,8 @@ mod plan;
 mod printing;
 mod rendering;
 mod sheet;
+#[cfg(test)]
+mod tests;
 mod work;
 
 pub use piece::{Kid, Piece, PieceMemory};
