@@ -1,3 +1,5 @@
+pub mod Names
+pub mod Tops
 pub mod Complete
 pub mod Zipper
 pub mod Closings

@@ -54,6 +54,7 @@ use Rattle.std.specs.Str.{bytes_eq}
 use Rattle.std.proofs.lemmas.Slice.Eq.{bytes_eq-Decides}
 use Rattle.jsx_syntax.specs.Words.{is_reserved}
 use Rattle.jsx_syntax.specs.Trees.{element_of, members_of}
+use Rattle.jsx_syntax.proofs.Names.{names_snoc}
 
 -- A step from what spells these words, over this word: what is read then spells them and the word.
 pub record Kept (words : List Word → List Word) (word : Word) (state : State) : Type 0 where
@@ -557,19 +558,6 @@ question_sound q d fs z = if_true (has_room q.depth) _ _ (Good (here_inside (i.V
       };
       words_are = λ more. ap (stack_words fs (part q.place q.depth) z.below) (u.words_are (w.Sign p.Question ∷ more));
     }) tt
-
-names_snoc : (xs : List (List ℕ)) (x : List ℕ) → names_before_map (xs ++ x ∷ []) ≡ (if bytes_eq x (codes "map") then Some xs else None)
-names_snoc [] x = refl
-names_snoc (y ∷ []) x = first_names (bytes_eq x (codes "map")) y
-  where
-    first_names : (b_ : Bool) (y : List ℕ) → option_map (λ (names : List (List ℕ)). y ∷ names) (if b_ then Some [] else None) ≡ (if b_ then Some (y ∷ []) else None)
-    first_names true y = refl
-    first_names false y = refl
-names_snoc (y ∷ v ∷ ys) x = ap (option_map (λ (names : List (List ℕ)). y ∷ names)) (names_snoc (v ∷ ys) x) ∙ more_names (bytes_eq x (codes "map")) y (v ∷ ys)
-  where
-    more_names : (b_ : Bool) (y : List ℕ) (ys : List (List ℕ)) → option_map (λ (names : List (List ℕ)). y ∷ names) (if b_ then Some ys else None) ≡ (if b_ then Some (y ∷ ys) else None)
-    more_names true y ys = refl
-    more_names false y ys = refl
 
 -- members that end in `.map`
 record MapList (c : Syntax g.member) (d : ℕ) (names : List (List ℕ)) : Type 0 where

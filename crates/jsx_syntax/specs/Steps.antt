@@ -47,9 +47,21 @@ use Rattle.jsx_syntax.specs.declared.state.Position.TheVariants as at_
 use Rattle.jsx_syntax.specs.declared.state.Frame.{Frame}
 use Rattle.jsx_syntax.specs.declared.state.Frame.TheVariants as f
 use Rattle.jsx_syntax.specs.declared.state.State.{State}
+use Rattle.jsx_syntax.specs.declared.state.Host.{Host}
+use Rattle.jsx_syntax.specs.declared.state.Host.TheVariants as host
+use Rattle.jsx_syntax.specs.declared.state.Top.{Top}
+use Rattle.jsx_syntax.specs.declared.state.Top.TheVariants as top
+use Rattle.jsx_syntax.specs.declared.state.End.{End}
+use Rattle.jsx_syntax.specs.declared.state.End.TheVariants as end
+use Rattle.jsx_syntax.specs.declared.state.StatementEnd.{StatementEnd}
+use Rattle.jsx_syntax.specs.declared.state.StatementEnd.TheVariants as ends
+use Rattle.jsx_syntax.specs.declared.state.OperandEnd.{OperandEnd}
+use Rattle.jsx_syntax.specs.declared.state.OperandEnd.TheVariants as ends_operand
+use Rattle.jsx_syntax.specs.declared.state.ElementEnd.{ElementEnd}
+use Rattle.jsx_syntax.specs.declared.state.ElementEnd.TheVariants as ends_element
 use Rattle.jsx_syntax.specs.Trees.{members_of, member_of, sum_of, and_of, or_of, node_of, choose_part, and_part, or_part, is_suspense, entry, element_of}
 use Rattle.jsx_syntax.specs.Words.{takes_children, is_fallback, is_reserved}
-use Rattle.jsx_syntax.specs.WordTests.{is_sign, is_word, has_room, refusal, code_name, any_name}
+use Rattle.jsx_syntax.specs.WordTests.{is_sign, is_word, has_room, refusal, refusal_by, code_name, any_name}
 
 abbrev pub Moved : Type 0
 Moved = Result State Wanted
@@ -87,8 +99,11 @@ name_then (Ok name) next = Ok (next name)
 name_then (Err wanted_) next = Err wanted_
 
 -- where a state is next if the sign stands there, and nothing else may
+abbrev pub expect_by : Bool → Punctuator → Word → State → Moved
+expect_by room sign word next = if is_sign sign word then Ok next else Err (refusal_by room word)
+
 abbrev pub expect : ℕ → Punctuator → Word → State → Moved
-expect open_ sign word next = if is_sign sign word then Ok next else Err (refusal open_ word)
+expect open_ sign word next = expect_by (has_room open_) sign word next
 
 abbrev pub expect_word : List ℕ → Word → State → Moved
 expect_word text word next = if is_word text word then Ok next else Err wanted.Token
@@ -198,6 +213,28 @@ abbrev pub deliver : Node → List Frame → Moved
 deliver node [] = Err wanted.Token
 deliver node (frame ∷ stack) = deliver_to frame node stack
 
+-- what takes a whole element
+abbrev pub host_of : Frame → Host
+host_of (f.Operand q) = host.Operand q
+host_of (f.Kid opened) = host.Kid opened
+host_of (f.No c one) = host.Other (f.No c one)
+host_of (f.Use draft name) = host.Other (f.Use draft name)
+host_of (f.Bind draft name) = host.Other (f.Bind draft name)
+host_of (f.If draft) = host.Other (f.If draft)
+host_of (f.Throw draft test) = host.Other (f.Throw draft test)
+host_of (f.Return draft) = host.Other (f.Return draft)
+host_of (f.Parens q) = host.Other (f.Parens q)
+host_of (f.Yes c) = host.Other (f.Yes c)
+host_of (f.Item q items) = host.Other (f.Item q items)
+host_of (f.MapBody mapping item number_) = host.Other (f.MapBody mapping item number_)
+host_of (f.Attribute tag name) = host.Other (f.Attribute tag name)
+host_of (f.Child opened) = host.Other (f.Child opened)
+
+abbrev pub deliver_at : Host → Node → List Frame → Moved
+deliver_at (host.Operand q) node stack = Ok (inside (i.Node q node) stack)
+deliver_at (host.Kid x) node stack = Ok (in_element (t.Children (with_kid x node)) stack)
+deliver_at (host.Other frame) node stack = Err wanted.Token
+
 -- The end of an expression
 
 -- conditionals whose last part this is
@@ -214,6 +251,14 @@ stack_within (frame ∷ stack) = frame ∷ stack
 abbrev pub value_then : Part → (Expr → State) → Moved
 value_then (Value x) next = Ok (next x)
 value_then (Other x) next = Err wanted.Token
+
+abbrev pub part_value : Part → Result Expr Wanted
+part_value (Value x) = Ok x
+part_value (Other x) = Err wanted.Token
+
+-- the value that ends at the sign, where nothing else may
+abbrev pub ended_value : Bool → Punctuator → Part → Word → Result Expr Wanted
+ended_value room sign x word = if is_sign sign word then part_value x else Err (refusal_by room word)
 
 abbrev pub with_stmt : Draft → Stmt → Draft
 with_stmt draft stmt = record draft { stmts = draft.stmts ++ stmt ∷ [] }
@@ -307,6 +352,47 @@ close (f.Child opened) x stack word = end_child opened x stack word
 close (f.Operand q) x stack word = Err wanted.Token
 close (f.Kid opened) x stack word = Err wanted.Token
 
+-- what the end of an expression takes on with at the frame
+abbrev pub top_of : Frame → Top
+top_of (f.No c one) = top.Last c one
+top_of (f.Use draft name) = top.End (end.Statement (ends.Use draft name))
+top_of (f.Bind draft name) = top.End (end.Statement (ends.Bind draft name))
+top_of (f.If draft) = top.End (end.Statement (ends.If draft))
+top_of (f.Throw draft test) = top.End (end.Statement (ends.Throw draft test))
+top_of (f.Return draft) = top.End (end.Statement (ends.Return draft))
+top_of (f.Parens q) = top.End (end.Operand (ends_operand.Parens q))
+top_of (f.Yes c) = top.End (end.Operand (ends_operand.Yes c))
+top_of (f.Item q items) = top.End (end.Operand (ends_operand.Item q items))
+top_of (f.MapBody mapping item number_) = top.End (end.Operand (ends_operand.MapBody mapping item number_))
+top_of (f.Attribute tag name) = top.End (end.Element (ends_element.Attribute tag name))
+top_of (f.Child opened) = top.End (end.Element (ends_element.Child opened))
+top_of (f.Operand q) = top.End (end.Other (f.Operand q))
+top_of (f.Kid opened) = top.End (end.Other (f.Kid opened))
+
+abbrev pub close_statement : StatementEnd → Part → List Frame → Word → Moved
+close_statement (ends.Use draft name) x stack word = end_use draft name x stack word
+close_statement (ends.Bind draft name) x stack word = end_bind draft name x stack word
+close_statement (ends.If draft) x stack word = end_if draft x stack word
+close_statement (ends.Throw draft test) x stack word = end_throw draft test x stack word
+close_statement (ends.Return draft) x stack word = end_return draft x stack word
+
+abbrev pub close_operand : OperandEnd → Part → List Frame → Word → Moved
+close_operand (ends_operand.Parens q) x stack word = end_parens q x stack word
+close_operand (ends_operand.Yes c) x stack word = end_yes c x stack word
+close_operand (ends_operand.Item q items) x stack word = end_item q items x stack word
+close_operand (ends_operand.MapBody mapping item number_) x stack word = end_map mapping item number_ x stack word
+
+abbrev pub close_element : ElementEnd → Part → List Frame → Word → Moved
+close_element (ends_element.Attribute tag name) x stack word = end_attribute tag name x stack word
+close_element (ends_element.Child opened) x stack word = end_child opened x stack word
+
+-- the same as `close`, of what the frame is
+abbrev pub close_end : End → Part → List Frame → Word → Moved
+close_end (end.Statement e) x stack word = close_statement e x stack word
+close_end (end.Operand e) x stack word = close_operand e x stack word
+close_end (end.Element e) x stack word = close_element e x stack word
+close_end (end.Other frame) x stack word = Err wanted.Token
+
 abbrev pub close_top : Part → List Frame → Word → Moved
 close_top x [] word = Err wanted.Token
 close_top x (frame ∷ stack) word = close frame x stack word
@@ -345,16 +431,20 @@ step_end q d stack word =
     if is_sign p.OpenParen word then step_open q d (names_before_map d.names) stack word
     else finish (Value (value_of q d)) stack word
 
+abbrev pub step_chain : Pending → Dotted → List Frame → Word → Moved
+step_chain q d stack word =
+    if is_sign p.AndAnd word then Ok (inside (i.Operand (after_and q d)) stack)
+    else if is_sign p.OrOr word then Ok (inside (i.Operand (after_or q d)) stack)
+    else if is_sign p.Question word then step_question q d stack
+    else step_end q d stack word
+
 abbrev pub step_value : Pending → Dotted → List Frame → Word → Moved
 step_value q d stack word =
     if is_sign p.Dot word then Ok (inside (i.Dot q d) stack)
     else if is_sign p.Plus word then Ok (inside (i.Operand (after_plus q d)) stack)
     else if is_sign p.StrictEqual word then step_equal q.left (after_equal q d false) stack
     else if is_sign p.StrictNotEqual word then step_equal q.left (after_equal q d true) stack
-    else if is_sign p.AndAnd word then Ok (inside (i.Operand (after_and q d)) stack)
-    else if is_sign p.OrOr word then Ok (inside (i.Operand (after_or q d)) stack)
-    else if is_sign p.Question word then step_question q d stack
-    else step_end q d stack word
+    else step_chain q d stack word
 
 abbrev pub operand : Pending → Expr → List Frame → Moved
 operand q x stack = Ok (inside (i.Value q (operand_of x)) stack)
@@ -467,11 +557,15 @@ step_in_map (m.Arrow mapping item number_) stack word = step_map_arrow mapping i
 
 -- Steps within an element
 
+abbrev pub step_attribute_name : Tag → List Frame → Word → Moved
+step_attribute_name tag stack word =
+    name_then (any_name (tag.depth + 1) word) (λ name. in_element (t.Equals tag name) stack)
+
 abbrev pub step_attributes : Tag → List Frame → Word → Moved
 step_attributes tag stack word =
     if is_sign p.SlashGreater word then deliver (element_of tag.name tag.props []) stack
     else if is_sign p.Greater word then Ok (in_element (t.Children (opened_by tag)) stack)
-    else name_then (any_name (tag.depth + 1) word) (λ name. in_element (t.Equals tag name) stack)
+    else step_attribute_name tag stack word
 
 abbrev pub fallback_place : Tag → Name → Bool
 fallback_place tag name = is_suspense tag.name.text && is_fallback name.text
@@ -490,10 +584,14 @@ step_attribute_value tag name stack (w.Name text place) = Err wanted.Token
 step_attribute_value tag name stack (w.Number z) = Err wanted.Token
 step_attribute_value tag name stack (w.JsxText x) = Err wanted.Token
 
+-- after an attribute without a value
+abbrev pub after_flag : Tag → Name → List Frame → Word → Moved
+after_flag tag name stack word = step_attributes (with_attribute tag name (n.Value (e.Bool true))) stack word
+
 abbrev pub step_equals : Tag → Name → List Frame → Word → Moved
 step_equals tag name stack word =
     if is_sign p.Assign word then Ok (in_element (t.Value tag name) stack)
-    else step_attributes (with_attribute tag name (n.Value (e.Bool true))) stack word
+    else after_flag tag name stack word
 
 abbrev pub step_text : Opened → List ℕ → List Frame → Moved
 step_text x [] stack = Ok (in_element (t.Children x) stack)
@@ -528,10 +626,13 @@ child_refusal (Err wanted_) = wanted_
 abbrev pub refused_child : ℕ → Word → Moved
 refused_child depth word = Err (child_refusal (step_operand (fresh true depth) [] word))
 
+abbrev pub open_child : Opened → List Frame → Word → Moved
+open_child x stack word = step_operand (fresh true (x.depth + 1 + 1)) (f.Child x ∷ stack) word
+
 abbrev pub step_braces : Opened → List Frame → Word → Moved
 step_braces x stack word =
     if is_sign p.CloseBrace word then Ok (in_element (t.Children x) stack)
-    else if holds_children x.name then step_operand (fresh true (x.depth + 1 + 1)) (f.Child x ∷ stack) word
+    else if holds_children x.name then open_child x stack word
     else refused_child (x.depth + 1 + 1) word
 
 abbrev pub same_name : Option Name → List ℕ → Bool
@@ -561,11 +662,15 @@ abbrev pub step_close_end : Opened → List Frame → Word → Moved
 step_close_end x stack word =
     if is_sign p.Greater word then deliver (element_node x) stack else Err (refusal (x.depth + 1) word)
 
+abbrev pub step_tag_name : ℕ → List Frame → Word → Moved
+step_tag_name depth stack word =
+    name_then (any_name (depth + 1) word)
+    (λ name. in_element (t.Attributes (record { depth = depth; name = name; props = [] })) stack)
+
 abbrev pub step_start_tag : ℕ → List Frame → Word → Moved
 step_start_tag depth stack word =
     if is_sign p.Greater word then Ok (in_element (t.Children (empty_fragment depth)) stack)
-    else name_then (any_name (depth + 1) word)
-    (λ name. in_element (t.Attributes (record { depth = depth; name = name; props = [] })) stack)
+    else step_tag_name depth stack word
 
 abbrev pub step_in_element : InElement → List Frame → Word → Moved
 step_in_element (t.Start depth) stack word = step_start_tag depth stack word

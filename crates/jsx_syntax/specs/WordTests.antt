@@ -85,22 +85,32 @@ opens (JsxText x) = false
 abbrev pub has_room : ℕ → Bool
 has_room open_ = nat_lt open_ nesting_limit
 
--- why a word is refused that could stand at no nesting, where so many are open
+-- why a word is refused that could stand at no nesting, by whether one more may be open
+abbrev pub refusal_by : Bool → Word → Wanted
+refusal_by room w = if opens w && not room then Shallower else Token
+
+-- the same where so many are open
 abbrev pub refusal : ℕ → Word → Wanted
-refusal open_ w = if opens w && not (has_room open_) then Shallower else Token
+refusal open_ w = refusal_by (has_room open_) w
 
 -- a name of code
+abbrev pub code_name_by : Bool → Word → Result name.Name Wanted
+code_name_by room (Name text at_) = if is_reserved text then Err Token else Ok (record { text = text; at = at_ })
+code_name_by room (Sign sign) = Err (refusal_by room (Sign sign))
+code_name_by room (Number z) = Err Token
+code_name_by room (Text x) = Err Token
+code_name_by room (JsxText x) = Err Token
+
 abbrev pub code_name : ℕ → Word → Result name.Name Wanted
-code_name open_ (Name text at_) = if is_reserved text then Err Token else Ok (record { text = text; at = at_ })
-code_name open_ (Sign sign) = Err (refusal open_ (Sign sign))
-code_name open_ (Number z) = Err Token
-code_name open_ (Text x) = Err Token
-code_name open_ (JsxText x) = Err Token
+code_name open_ w = code_name_by (has_room open_) w
 
 -- a name of a tag or after a dot, where a word of the language is one too
+abbrev pub any_name_by : Bool → Word → Result name.Name Wanted
+any_name_by room (Name text at_) = Ok (record { text = text; at = at_ })
+any_name_by room (Sign sign) = Err (refusal_by room (Sign sign))
+any_name_by room (Number z) = Err Token
+any_name_by room (Text x) = Err Token
+any_name_by room (JsxText x) = Err Token
+
 abbrev pub any_name : ℕ → Word → Result name.Name Wanted
-any_name open_ (Name text at_) = Ok (record { text = text; at = at_ })
-any_name open_ (Sign sign) = Err (refusal open_ (Sign sign))
-any_name open_ (Number z) = Err Token
-any_name open_ (Text x) = Err Token
-any_name open_ (JsxText x) = Err Token
+any_name open_ w = any_name_by (has_room open_) w

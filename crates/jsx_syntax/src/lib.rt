@@ -5,17 +5,27 @@
 #![tactic(auto)]
 
 mod app;
+mod builders;
+mod closing;
+mod component;
+mod element;
 mod expr;
 mod fault;
 mod file;
 mod laws;
+mod map;
+mod matching;
 mod name;
 mod node;
+mod operand;
 mod parser;
 mod part;
+mod places;
 mod rule;
 mod stack;
 mod state;
+#[cfg(test)]
+mod tests;
 
 pub use app::App;
 pub use expr::Expr;

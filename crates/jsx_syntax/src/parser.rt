@@ -11,8 +11,12 @@ ghost use Rattle.jsx_syntax.specs.Parsing.{IsSpelled, HasCause};
 ghost use Rattle.jsx_syntax.specs.declared.file.File.{File};
 ghost use Rattle.jsx_syntax.specs.declared.fault.SyntaxFault.TheVariants.{OutOfMemory};
 
+use crate::component::{step_outside, step_within};
+use crate::element::step_in_element;
 use crate::fault::{Stop, SyntaxFault, Wanted};
 use crate::file::{Component, File};
+use crate::map::step_in_map;
+use crate::operand::step_inside;
 use crate::stack::Stack;
 use crate::state::{Outside, Position, State};
 use jsx_lex::{Token, Word, token_words, word_of};
@@ -30,10 +34,17 @@ fn first_state(alloc: Global) -> State
 }
 
 /// What a state becomes at a word.
-fn step(_alloc: Global, _state: State, _word: Word) -> Result<State, Stop>
-    ensures { Gives (spec.step _state _word) result }
+fn step(alloc: Global, state: State, word: Word) -> Result<State, Stop>
+    ensures { Gives (spec.step state word) result }
 {
-    Err(Stop::OutOfMemory)
+    let State { position, stack } = state;
+    match position {
+        Position::Outside(place) => step_outside(alloc, place, stack, word),
+        Position::Within(place) => step_within(alloc, place, stack, word),
+        Position::Inside(place) => step_inside(alloc, place, stack, word),
+        Position::InMap(place) => step_in_map(alloc, place, stack, word),
+        Position::InElement(place) => step_in_element(alloc, place, stack, word),
+    }
 }
 
 fn fault_at(stop: Stop, at: usize) -> SyntaxFault

@@ -4,7 +4,7 @@ use std::alloc::{AllocError, Global};
 use std::marker::Model;
 
 /// A stack. Contracts see it as a list, the top first.
-#[derive(Debug, Drop)]
+#[derive(Drop)]
 pub(crate) struct Stack<T> {
     items: Vec<T>,
 }

@@ -10,7 +10,7 @@ use crate::stack::Stack;
 use sqlite_items::Items;
 
 /// The components before a component, its name and its properties.
-#[derive(Debug, Drop)]
+#[derive(Drop)]
 pub(crate) struct Signature {
     pub(crate) components: Items<Component>,
     pub(crate) name: Name,
@@ -18,21 +18,21 @@ pub(crate) struct Signature {
 }
 
 /// A component before its `return`.
-#[derive(Debug, Drop)]
+#[derive(Drop)]
 pub(crate) struct Draft {
     pub(crate) signature: Signature,
     pub(crate) stmts: Items<Stmt>,
 }
 
 /// The left side of `===`, or of `!==` where it is negated.
-#[derive(Debug, Drop)]
+#[derive(Drop)]
 pub(crate) struct Left {
     pub(crate) value: Expr,
     pub(crate) negated: bool,
 }
 
 /// What was read of an expression before the operand that comes next: `depth` are open around it.
-#[derive(Debug, Drop)]
+#[derive(Drop)]
 pub(crate) struct Pending {
     /// Whether it stands in a node place.
     pub(crate) place: bool,
@@ -45,7 +45,7 @@ pub(crate) struct Pending {
 }
 
 /// A conditional after its test.
-#[derive(Debug, Drop)]
+#[derive(Drop)]
 pub(crate) struct Conditional {
     pub(crate) place: bool,
     pub(crate) depth: usize,
@@ -53,14 +53,14 @@ pub(crate) struct Conditional {
 }
 
 /// `list.map`, which is an operand.
-#[derive(Debug, Drop)]
+#[derive(Drop)]
 pub(crate) struct Mapping {
     pub(crate) pending: Pending,
     pub(crate) list: Expr,
 }
 
 /// An element before the end of its first tag.
-#[derive(Debug, Drop)]
+#[derive(Drop)]
 pub(crate) struct Tag {
     pub(crate) depth: usize,
     pub(crate) name: Name,
@@ -68,7 +68,7 @@ pub(crate) struct Tag {
 }
 
 /// An element before its closing tag. A fragment has no name and no attributes.
-#[derive(Debug, Drop)]
+#[derive(Drop)]
 pub(crate) struct Opened {
     pub(crate) depth: usize,
     pub(crate) name: Option<Name>,
@@ -77,7 +77,7 @@ pub(crate) struct Opened {
 }
 
 /// Outside the bodies of components: what comes next.
-#[derive(Debug, Drop)]
+#[derive(Drop)]
 pub(crate) enum Outside {
     /// `function`, or the end.
     File(Items<Component>),
@@ -101,7 +101,7 @@ pub(crate) enum Outside {
 }
 
 /// Between the expressions of a component's body: what comes next.
-#[derive(Debug, Drop)]
+#[derive(Drop)]
 pub(crate) enum Within {
     /// A statement or `return`.
     Start(Draft),
@@ -121,7 +121,7 @@ pub(crate) enum Within {
 }
 
 /// Within an expression: what comes next.
-#[derive(Debug, Drop)]
+#[derive(Drop)]
 pub(crate) enum Inside {
     /// An operand.
     Operand(Pending),
@@ -138,7 +138,7 @@ pub(crate) enum Inside {
 }
 
 /// Between `list.map` and the body of a map: what comes next.
-#[derive(Debug, Drop)]
+#[derive(Drop)]
 pub(crate) enum InMap {
     /// `(`
     Open(Mapping),
@@ -155,7 +155,7 @@ pub(crate) enum InMap {
 }
 
 /// Within an element: what comes next.
-#[derive(Debug, Drop)]
+#[derive(Drop)]
 pub(crate) enum InElement {
     /// A name or `>`. So many are open around the element.
     Start(usize),
@@ -176,7 +176,7 @@ pub(crate) enum InElement {
 }
 
 /// What comes next.
-#[derive(Debug, Drop)]
+#[derive(Drop)]
 pub(crate) enum Position {
     Outside(Outside),
     Within(Within),
@@ -186,7 +186,7 @@ pub(crate) enum Position {
 }
 
 /// What is read around an expression or an element.
-#[derive(Debug, Drop)]
+#[derive(Drop)]
 pub(crate) enum Frame {
     /// `const name = use( · );`
     Use(Draft, Name),
@@ -218,8 +218,53 @@ pub(crate) enum Frame {
     Kid(Opened),
 }
 
+/// A statement that an expression ends.
+pub(crate) enum StatementEnd {
+    Use(Draft, Name),
+    Bind(Draft, Name),
+    If(Draft),
+    Throw(Draft, Expr),
+    Return(Draft),
+}
+
+/// A part of an operand that an expression ends.
+pub(crate) enum OperandEnd {
+    Parens(Pending),
+    Yes(Conditional),
+    Item(Pending, Items<Node>),
+    MapBody(Mapping, Name, Option<Name>),
+}
+
+/// A part of an element that an expression ends.
+pub(crate) enum ElementEnd {
+    Attribute(Tag, Name),
+    Child(Opened),
+}
+
+/// What an expression ends, where it is not the last part of a conditional.
+pub(crate) enum End {
+    Statement(StatementEnd),
+    Operand(OperandEnd),
+    Element(ElementEnd),
+    /// Nothing.
+    Other(Frame),
+}
+
+/// The innermost frame, as what the end of an expression takes on with.
+pub(crate) enum Top {
+    Last(Conditional, Part),
+    End(End),
+}
+
+/// The innermost frame, as what takes a whole element.
+pub(crate) enum Host {
+    Operand(Pending),
+    Kid(Opened),
+    Other(Frame),
+}
+
 /// Where the parser is in a text.
-#[derive(Debug, Drop)]
+#[derive(Drop)]
 pub(crate) struct State {
     pub(crate) position: Position,
     pub(crate) stack: Stack<Frame>,
