@@ -295,7 +295,7 @@ names_before_map-append [] = refl
 names_before_map-append (x ∷ []) = refl
 names_before_map-append (x ∷ y ∷ more) = rw (names_before_map-append (y ∷ more)) refl
 
-room_before : (d : ℕ) → HasRoom (d + 1) → HasRoom d
+pub room_before : (d : ℕ) → HasRoom (d + 1) → HasRoom d
 room_before d room = grind (arith, nat_tests)
 
 true_false : true ≡ false → ⊥

@@ -6,4 +6,8 @@ pub mod Closings
 pub mod Sound
 pub mod Alive
 pub mod Reading
+pub mod Marked
+pub mod Told
+pub mod KindsLemmas
 pub mod ParseLemmas
+pub mod OneRefusal

@@ -8,6 +8,7 @@ use Rattle.jsx_lex.specs.declared.word.Word.{Word}
 use Rattle.jsx_syntax.specs.declared.file.File.{File}
 use Rattle.jsx_syntax.specs.declared.file.Component.{Component}
 use Rattle.jsx_syntax.specs.declared.fault.Wanted.{Wanted}
+use Rattle.jsx_syntax.specs.declared.fault.Wanted.TheVariants as wanted_
 use Rattle.jsx_syntax.specs.declared.fault.SyntaxFault.{SyntaxFault}
 use Rattle.jsx_syntax.specs.declared.fault.SyntaxFault.TheVariants.{Bad, OutOfMemory}
 use Rattle.jsx_syntax.specs.declared.state.State.{State}
@@ -20,6 +21,7 @@ use Rattle.jsx_syntax.specs.Grammar.{SpellsFile}
 use Rattle.jsx_syntax.specs.Parsing.{IsRefusedAt, HasCause}
 use Rattle.jsx_syntax.specs.Refusals.{IsFirstRefused}
 use Rattle.jsx_syntax.specs.Steps.{Moved, run, step, first_state}
+use Rattle.jsx_syntax.proofs.KindsLemmas.{wanted_here}
 use Rattle.jsx_syntax.proofs.Reading.{run-append, reached, reached-alive, refused-dead, unfinished-dead, found-file, IsFile}
 
 in_order-le : (from to : ℕ) (ts : List Token) → InOrder from to ts → from ≤ to
@@ -54,7 +56,7 @@ moved_on text tokens i d state next h l e =
 split_at : (tokens : List Token) (i : ℕ) (d : Token) → i < length tokens → tokens ≡ take i tokens ++ (get_or tokens i d ∷ drop (suc i) tokens)
 split_at tokens i d l = sym (take-append-drop i tokens) ∙ ap (λ (ts : List Token). take i tokens ++ ts) (drop-cons tokens i d l)
 
-refused_here : (text : List ℕ) (tokens : List Token) (i : ℕ) (d : Token) (state : State) (wanted : Wanted) (place : ℕ) → LeadsTo text (take i tokens) state → i < length tokens
+abbrev refused_here : (text : List ℕ) (tokens : List Token) (i : ℕ) (d : Token) (state : State) (wanted : Wanted) (place : ℕ) → LeadsTo text (take i tokens) state → i < length tokens
     → (step state (word_at text (get_or tokens i d)) ≡ Err wanted) × (place ≡ (get_or tokens i d).from) → IsRefusedAt text tokens place
 refused_here text tokens i d state wanted place h l e = record {
   before = take i tokens;
@@ -70,7 +72,8 @@ refused_here text tokens i d state wanted place h l e = record {
 
 pub stop_cause : (text : List ℕ) (tokens : List Token) (i : ℕ) (d : Token) (state : State) (fault : SyntaxFault) → LeadsTo text (take i tokens) state → i < length tokens
     → StopsHere text (get_or tokens i d) state fault → HasCause text tokens fault
-stop_cause text tokens i d state (Bad place wanted) h l e = refused_here text tokens i d state wanted place h l e
+stop_cause text tokens i d state (Bad place wanted) h l e =
+    (refused_here text tokens i d state wanted place h l e, wanted_here (words_of text (take i tokens)) (word_at text (get_or tokens i d)) state wanted h e.0)
 stop_cause text tokens i d state OutOfMemory h l e = tt
 
 none_spelled : (words before after : List Word) → IsFirstRefused words before after → (file : File) → SpellsFile words file → ⊥
@@ -79,7 +82,7 @@ none_spelled words before (word ∷ after) r file s = r.dead after file (subst (
 
 pub stop_only : (text : List ℕ) (tokens : List Token) (fault : SyntaxFault) → HasCause text tokens fault → (file : File) → SpellsFile (words_of text tokens) file → fault ≡ OutOfMemory
 stop_only text tokens (Bad place wanted) cause file s =
-    absurd (none_spelled (words_of text tokens) (words_of text cause.before) (words_of text cause.after) cause.refused file s)
+    absurd (none_spelled (words_of text tokens) (words_of text cause.0.before) (words_of text cause.0.after) cause.0.refused file s)
 stop_only text tokens OutOfMemory cause file s = refl
 
 file_some : (x : Position) → IsFile x → components_of x ≡ None → ⊥
@@ -89,9 +92,9 @@ file_some _ is none = is
 all_taken : (text : List ℕ) (tokens : List Token) (i : ℕ) (state : State) → LeadsTo text (take i tokens) state → length tokens ≤ i → LeadsTo text tokens state
 all_taken text tokens i state h l = ap (λ (ts : List Token). run (Ok first_state) (words_of text ts)) (sym (take_all i tokens l)) ∙ h
 
-pub end_cause : (text : List ℕ) (tokens : List Token) (i : ℕ) (state : State) → LeadsTo text (take i tokens) state → length tokens ≤ i
+abbrev ended_here : (text : List ℕ) (tokens : List Token) (i : ℕ) (state : State) → LeadsTo text (take i tokens) state → length tokens ≤ i
     → components_of state.position ≡ None → IsRefusedAt text tokens (length text)
-end_cause text tokens i state h l none =
+ended_here text tokens i state h l none =
     let all = all_taken text tokens i state h l in
     record {
       before = tokens;
@@ -104,6 +107,10 @@ end_cause text tokens i state h l none =
         dead = unfinished-dead (words_of text tokens) state all (λ is. file_some state.position is none);
       };
     }
+
+pub end_cause : (text : List ℕ) (tokens : List Token) (i : ℕ) (state : State) → LeadsTo text (take i tokens) state → length tokens ≤ i
+    → components_of state.position ≡ None → HasCause text tokens (Bad (length text) wanted_.Token)
+end_cause text tokens i state h l none = (ended_here text tokens i state h l none, refl)
 
 by_position : (words : List Word) (x : Position) (stack : List Frame) (components : List Component) → run (Ok first_state) words ≡ Ok (record { position = x; stack = stack })
     → components_of x ≡ Some components → SpellsFile words (record { components = components })

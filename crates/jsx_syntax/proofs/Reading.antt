@@ -32,7 +32,7 @@ run-file words file_ s =
 abbrev moved : State → Moved
 moved state = Ok state
 
-ok_ok : (r s : State) → moved r ≡ moved s → r ≡ s
+pub ok_ok : (r s : State) → moved r ≡ moved s → r ≡ s
 ok_ok r s h = cc
 
 abbrev components_in : Position → List Component
@@ -58,7 +58,7 @@ pub record Reached (words : List Word) (state : State) : Type 0 where
   pub at : At state.position state.stack
   pub words_are : (more : List Word) → at_words state.position state.stack at more ≡ words ++ more
 
-err_ok : (x : Wanted) (s : State) → Err x ≡ Ok s → ⊥
+pub err_ok : (x : Wanted) (s : State) → Err x ≡ Ok s → ⊥
 err_ok x s h = cc
 
 reach : (words : List Word) (state : State) (z : At state.position state.stack) (front : List Word)
@@ -80,7 +80,7 @@ reach (word ∷ words) state z front is last h =
         subst (λ (ws : List Word). Reached ws last) (append_assoc front (word ∷ []) words)
         (ih next k.at (front ++ word ∷ []) (λ more. k.words_are more ∙ is (word ∷ more) ∙ sym (append_assoc front (word ∷ []) more)) last h_)
 
-first_at : At first_state.position first_state.stack
+pub first_at : At first_state.position first_state.stack
 first_at = record { here = record { syntax = g.no_component; is = refl; fits = tt }; below = tt }
 
 first_words : (more : List Word) → at_words first_state.position first_state.stack first_at more ≡ more

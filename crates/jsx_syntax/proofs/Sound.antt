@@ -72,11 +72,11 @@ Good-as words others word (Err wanted_) same k = tt
 
 -- Tests of words.
 
-if_both : (b_ : Bool) (x y : Moved) (P : Moved → Type 0) → (b_ ≡ true → P x) → (b_ ≡ false → P y) → P (if b_ then x else y)
+pub if_both : (b_ : Bool) (x y : Moved) (P : Moved → Type 0) → (b_ ≡ true → P x) → (b_ ≡ false → P y) → P (if b_ then x else y)
 if_both true x y P yes_ no_ = yes_ refl
 if_both false x y P yes_ no_ = no_ refl
 
-if_true : (b_ : Bool) (x y : Moved) (P : Moved → Type 0) → (b_ ≡ true → P x) → P y → P (if b_ then x else y)
+pub if_true : (b_ : Bool) (x y : Moved) (P : Moved → Type 0) → (b_ ≡ true → P x) → P y → P (if b_ then x else y)
 if_true true x y P yes_ no_ = yes_ refl
 if_true false x y P yes_ no_ = no_
 
@@ -112,7 +112,7 @@ numbered p.Greater = refl
 numbered p.SlashGreater = refl
 numbered p.LessSlash = refl
 
-sign_is : (sign : Punctuator) (word : Word) → is_sign sign word ≡ true → word ≡ w.Sign sign
+pub sign_is : (sign : Punctuator) (word : Word) → is_sign sign word ≡ true → word ≡ w.Sign sign
 sign_is sign (w.Sign other) h =
     let same = eqb-true (punctuator_number sign) (punctuator_number other) h in
     ap w.Sign (sym (numbered other) ∙ ap (λ (k : ℕ). get_or punctuators k p.StrictEqual) (sym same) ∙ numbered sign)
@@ -126,7 +126,7 @@ pub on_sign : (sign : Punctuator) (word : Word) (words : List Word → List Word
 on_sign sign word words x y yes_ no_ =
     if_true (is_sign sign word) x y (Good words word) (λ is. subst (λ (v : Word). Good words v x) (sym (sign_is sign word is)) yes_) no_
 
-both_is : (a b_ : Bool) → a && b_ ≡ true → (a ≡ true) × (b_ ≡ true)
+pub both_is : (a b_ : Bool) → a && b_ ≡ true → (a ≡ true) × (b_ ≡ true)
 both_is true b_ h = (refl, h)
 both_is false b_ h = absurd (cc)
 

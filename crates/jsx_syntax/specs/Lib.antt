@@ -8,3 +8,5 @@ pub mod Examples
 pub mod Parsing
 pub mod Advances
 pub mod Rules
+pub mod Marks
+pub mod Kinds

@@ -7,6 +7,7 @@ use Rattle.jsx_syntax.specs.declared.fault.SyntaxFault.{SyntaxFault}
 use Rattle.jsx_syntax.specs.declared.fault.SyntaxFault.TheVariants.{Bad, OutOfMemory}
 use Rattle.jsx_syntax.specs.Grammar.{SpellsFile}
 use Rattle.jsx_syntax.specs.Refusals.{IsFirstRefused}
+use Rattle.jsx_syntax.specs.Kinds.{IsWanted}
 
 -- the tokens of the text spell the file
 abbrev pub IsSpelled : List ℕ → List Token → File → Type 0
@@ -25,7 +26,8 @@ pub record IsRefusedAt (text : List ℕ) (tokens : List Token) (place : ℕ) : T
   pub place_is : place ≡ place_of text after
   pub refused : IsFirstRefused (words_of text tokens) (words_of text before) (words_of text after)
 
--- The cause of each refusal. What the token's `wanted` says is not claimed here.
+-- The cause of each refusal, and what is wanted in the token's place.
 abbrev pub HasCause : List ℕ → List Token → SyntaxFault → Type 0
-HasCause text tokens (Bad place wanted) = IsRefusedAt text tokens place
+HasCause text tokens (Bad place wanted) =
+    (cause : IsRefusedAt text tokens place) × IsWanted (words_of text cause.before) (words_of text cause.after) wanted
 HasCause text tokens OutOfMemory = Unit {0}

@@ -31,7 +31,7 @@ pub use app::App;
 pub use expr::Expr;
 pub use fault::{SyntaxFault, Wanted};
 pub use file::{Component, File, Stmt};
-pub use laws::{file_or_first_refused, one_file, worked_files};
+pub use laws::{file_or_first_refused, one_file, one_syntax_fault, worked_files};
 pub use name::{Entry, Name};
 pub use node::{Node, Prop};
 pub use parser::parse;
