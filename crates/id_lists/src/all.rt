@@ -32,7 +32,8 @@ impl IdLists {
 
     /// No list and no id.
     pub fn new(alloc: Global) -> IdLists
-        ensures { result ≡ no_lists }
+        ensures empty { result ≡ no_lists }
+        ensures lists { AreLists result }
     {
         IdLists {
             links: linking::no_links(alloc),
@@ -47,6 +48,7 @@ impl IdLists {
         requires ids { self.old.ids + ids < 2 ^ 32 }
         ensures ok { OnOk result (self.new ≡ reserved lists ids self.old) }
         ensures err { OnErr result (self.new ≡ self.old) }
+        ensures lists { AreLists self.new }
     {
         linking::reserve(&mut self.links, lists as usize, ids as usize)?;
         self.spare_lists = self.spare_lists.max(lists);
@@ -88,6 +90,7 @@ impl IdLists {
         requires { 0 < self.old.spare_lists }
         ensures number { result ≡ length self.old.lists }
         ensures added { self.new ≡ with_list self.old }
+        ensures lists { AreLists self.new }
     {
         let list = self.links.first.len() as u32;
         linking::add_list(&mut self.links);
@@ -101,6 +104,7 @@ impl IdLists {
         ensures number { result ≡ self.old.ids }
         ensures free { times_in_all result self.old.lists ≡ 0 }
         ensures added { self.new ≡ with_id self.old }
+        ensures lists { AreLists self.new }
     {
         let id = self.links.next.len() as u32;
         linking::add_id(&mut self.links);
@@ -111,14 +115,16 @@ impl IdLists {
     /// Makes an id that stands in no list the last of one.
     pub fn push(&mut self, list: u32, id: u32)
         requires { CanPush list id self.old }
-        ensures { self.new ≡ record self.old { lists = with_pushed list id self.old.lists } }
+        ensures pushed { self.new ≡ record self.old { lists = with_pushed list id self.old.lists } }
+        ensures lists { AreLists self.new }
     {
         linking::append(&mut self.links, list, id);
     }
 
     /// Takes an id out of the list in which it stands, if there is one. The others keep their order.
     pub fn remove(&mut self, id: u32)
-        ensures { self.new ≡ record self.old { lists = without id self.old.lists } }
+        ensures removed { self.new ≡ record self.old { lists = without id self.old.lists } }
+        ensures lists { AreLists self.new }
     {
         linking::remove(&mut self.links, id);
     }

@@ -7,3 +7,8 @@ pub invariant_of-self : goal.invariant_of-self
 invariant_of-self c =
     (kept_list c.self.inside.links c.self.inside.spare_lists c.self.inside.spare_ids c.self.invariant c.add_list.new.links
     (subst (λ (all : Lists). 0 < all.spare_lists) (sym c.self.view_is) c.requires) c.add_list.ensures.pushed c.add_list.ensures.room).kept
+
+pub returns-clause-lists : goal.returns-clause-lists
+returns-clause-lists c =
+    (kept_list c.self.inside.links c.self.inside.spare_lists c.self.inside.spare_ids c.self.invariant c.add_list.new.links
+    (subst (λ (all : Lists). 0 < all.spare_lists) (sym c.self.view_is) c.requires) c.add_list.ensures.pushed c.add_list.ensures.room).kept.lists

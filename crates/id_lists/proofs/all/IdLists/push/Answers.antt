@@ -9,8 +9,13 @@ invariant_of-self c =
     (kept_push c.self.inside.links c.self.inside.spare_lists c.self.inside.spare_ids c.self.invariant c.args.list c.args.id c.append.new.links
     (subst (CanPush c.args.list c.args.id) (sym c.self.view_is) c.requires) c.append.ensures.appended c.append.ensures.room).kept
 
-pub returns : goal.returns
-returns c =
+pub returns-clause-pushed : goal.returns-clause-pushed
+returns-clause-pushed c =
     (kept_push c.self.inside.links c.self.inside.spare_lists c.self.inside.spare_ids c.self.invariant c.args.list c.args.id c.append.new.links
     (subst (CanPush c.args.list c.args.id) (sym c.self.view_is) c.requires) c.append.ensures.appended c.append.ensures.room).all
     ∙ ap (λ (all : Lists). record all { lists = with_pushed c.args.list c.args.id all.lists }) c.self.view_is
+
+pub returns-clause-lists : goal.returns-clause-lists
+returns-clause-lists c =
+    (kept_push c.self.inside.links c.self.inside.spare_lists c.self.inside.spare_ids c.self.invariant c.args.list c.args.id c.append.new.links
+    (subst (CanPush c.args.list c.args.id) (sym c.self.view_is) c.requires) c.append.ensures.appended c.append.ensures.room).kept.lists

@@ -9,8 +9,13 @@ invariant_of-self c =
     (kept_remove c.self.inside.links c.self.inside.spare_lists c.self.inside.spare_ids c.self.invariant c.args.id c.remove.new.links
     c.remove.ensures.removed c.remove.ensures.room).kept
 
-pub returns : goal.returns
-returns c =
+pub returns-clause-removed : goal.returns-clause-removed
+returns-clause-removed c =
     (kept_remove c.self.inside.links c.self.inside.spare_lists c.self.inside.spare_ids c.self.invariant c.args.id c.remove.new.links
     c.remove.ensures.removed c.remove.ensures.room).all
     ∙ ap (λ (all : Lists). record all { lists = without c.args.id all.lists }) c.self.view_is
+
+pub returns-clause-lists : goal.returns-clause-lists
+returns-clause-lists c =
+    (kept_remove c.self.inside.links c.self.inside.spare_lists c.self.inside.spare_ids c.self.invariant c.args.id c.remove.new.links
+    c.remove.ensures.removed c.remove.ensures.room).kept.lists
