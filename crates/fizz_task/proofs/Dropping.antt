@@ -11,7 +11,7 @@ nothing_claims : (claim : ℕ) → None ≡ Some claim → ⊥
 nothing_claims claim h = cc
 
 -- two filters, one after the other
-filter_twice : (outer inner both : ℕ → Bool) (ms : List ℕ) → ((n : ℕ) → both n ≡ cond (inner n) (outer n) false)
+pub filter_twice : (outer inner both : ℕ → Bool) (ms : List ℕ) → ((n : ℕ) → both n ≡ cond (inner n) (outer n) false)
     → filter both ms ≡ filter outer (filter inner ms)
 filter_twice outer inner both [] agree = refl
 filter_twice outer inner both (m ∷ ms) agree =
@@ -39,7 +39,7 @@ module _ {W : Type 0} where
   at_dropped owner (first ∷ owners) (state ∷ states) zero same = refl
   at_dropped owner (first ∷ owners) (state ∷ states) (suc k) same = at_dropped owner owners states k (omega arith)
 
-  length-dropped : (owner : Option ℕ) (owners : List (Option ℕ)) (states : List (State W)) → length (without_owned owner owners states) ≡ length states
+  pub length-dropped : (owner : Option ℕ) (owners : List (Option ℕ)) (states : List (State W)) → length (without_owned owner owners states) ≡ length states
   length-dropped owner [] states = refl
   length-dropped owner (first ∷ owners) [] = refl
   length-dropped owner (first ∷ owners) (state ∷ states) = omega (arith, length-dropped owner owners states)
@@ -67,7 +67,7 @@ module _ {W : Type 0} where
       by_test true = gone
       by_test false = was
 
-  few_most : (s : State W) → most_times s ≤ 1
+  pub few_most : (s : State W) → most_times s ≤ 1
   few_most Gone = omega arith
   few_most (Runnable payload) = omega arith
   few_most (Claimed claim) = omega arith

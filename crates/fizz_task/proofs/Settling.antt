@@ -13,7 +13,7 @@ use Rattle.fizz_task.proofs.Keeping.{Sound}
 use Rattle.fizz_task.proofs.Lists.{filter_same, one_other, one_same, times-append}
 
 -- a filter keeps all of a list that passes
-filter_all : (test : ℕ → Bool) (ms : List ℕ) → ((n : ℕ) → 0 < times n ms → test n ≡ true) → filter test ms ≡ ms
+pub filter_all : (test : ℕ → Bool) (ms : List ℕ) → ((n : ℕ) → 0 < times n ms → test n ≡ true) → filter test ms ≡ ms
 filter_all test [] passes = refl
 filter_all test (m ∷ ms) passes =
     cond-true (test m) _ _ (passes m (omega (arith, one_same m)))

@@ -1,11 +1,15 @@
 //! Tasks: which can be claimed, which are claimed and under which number, and which wait for a resource.
 #![tactic(auto)]
 
+mod columns;
+mod indexing;
+mod places;
 mod state;
 mod tasks;
 
 pub use state::{Claimed, StaleTask, TaskState};
 pub use tasks::Tasks;
+
 
 #[cfg(test)]
 mod tests;
