@@ -7,3 +7,4 @@ pub mod Single
 pub mod Guides
 pub mod Walks
 pub mod Owned
+pub mod Waking

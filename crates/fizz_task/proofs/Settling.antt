@@ -20,7 +20,7 @@ filter_all test (m ∷ ms) passes =
     ∙ ap (λ (rest : List ℕ). m ∷ rest) (filter_all test ms (λ n stands. passes n (omega arith)))
 
 module _ {W : Type 0} where
-  numbers_below : (test : State W → Bool) (first : ℕ) (states : List (State W)) (k : ℕ) → k < first → times k (numbers_from test first states) ≡ 0
+  pub numbers_below : (test : State W → Bool) (first : ℕ) (states : List (State W)) (k : ℕ) → k < first → times k (numbers_from test first states) ≡ 0
   numbers_below test first [] k below = refl
   numbers_below test first (state ∷ states) k below = elim (cases_Bool (test state)) [
     | inl passes ↦ ap (times k) (cond-true (test state) _ _ passes)

@@ -1,12 +1,12 @@
 -- How tasks are found by their owner and by the resource for which they wait: each stands in a list whose number comes
 -- from the owner or the name. Other tasks may stand there too.
-use Rattle.std.specs.Prelude.{◌≡◌, ◌+◌, ◌-◌, ◌*◌, ◌%◌, ◌<◌, ◌≤◌, ℕ, Bool, true, false, List, [], ◌∷◌, length, Option, Some, None}
+use Rattle.std.specs.Prelude.{◌≡◌, ◌+◌, ◌-◌, ◌*◌, ◌%◌, ◌<◌, ◌≤◌, ℕ, Bool, true, false, List, [], ◌∷◌, ◌++◌, length, map, filter, Option, Some, None}
 use Rattle.id_lists.specs.Lists.{AreLists, Lists, after, list_at, times as times_in}
 use Rattle.id_lists.specs.Calls.{with_pushed, without}
 use Rattle.fizz_task.specs.declared.state.State.{State}
 use Rattle.fizz_task.specs.declared.state.State.TheVariants.{Gone, Runnable, Claimed, Waiting}
-use Rattle.fizz_task.specs.Board.{Board, IsBoard, state_at}
-use Rattle.fizz_task.specs.Calls.{dropped, is_owned, owner_at}
+use Rattle.fizz_task.specs.Board.{Board, IsBoard, one, state_at, times, waits_for}
+use Rattle.fizz_task.specs.Calls.{dropped, is_owned, owner_at, woken}
 
 -- among so many lists, the one of an owner
 abbrev pub owner_list : ℕ → Option ℕ → ℕ
@@ -69,6 +69,11 @@ abbrev pub rest : Option ℕ → List ℕ → List ℕ
 rest None ids = []
 rest (Some id) ids = id ∷ after id ids
 
+-- a list is gone through, and what passes a test is found
+pub record IsFinding (test : ℕ → Bool) (ids found : List ℕ) (next : Option ℕ) : Type 0 where
+  pub stands : (id : ℕ) → next ≡ Some id → 0 < times_in id ids
+  pub total : found ++ filter test (rest next ids) ≡ filter test ids
+
 module _ {W : Type 0} where
   -- a task that isn't gone has a place by its owner
   abbrev pub owner_place : ℕ → Option ℕ → State W → Option ℕ
@@ -126,3 +131,13 @@ module _ {W : Type 0} where
     pub left : (task : ℕ) → is_owned owner now.owners task ≡ true → is_gone (state_at now.states task) ≡ false
         → 0 < times_in task (rest next (list_at by_owner.lists list))
     pub same : dropped owner now ≡ dropped owner start
+
+  -- of the tasks that waited for a resource, these are left to be woken
+  pub record IsWaking (name : List ℕ) (start now : Board W) (by_owner by_name : Lists) (left woken_ones : List ℕ) : Type 0 where
+    pub indexed : IsIndexed now by_owner by_name
+    pub waits : (task : ℕ) → times task left ≡ one (waits_for name (state_at now.states task))
+    pub states : map (woken name) now.states ≡ map (woken name) start.states
+    pub queue : now.queue ++ left ≡ start.queue ++ woken_ones
+    pub owners : now.owners ≡ start.owners
+    pub claims : now.claims ≡ start.claims
+    pub spare : now.spare ≡ start.spare

@@ -1,14 +1,14 @@
 //! Lists of tasks by their owners and by the resources for which they wait.
 
-ghost use Rattle.std.specs.Prelude.{◌≡◌, ◌+◌, ◌<◌, ◌≤◌, ◌^◌, ℕ, true, length, vec_capacity, OnOk};
-ghost use Rattle.id_lists.specs.Lists.{AreLists};
-ghost use Rattle.fizz_task.specs.Board.{Board, IsBoard};
-ghost use Rattle.fizz_task.specs.Calls.{dropped};
+ghost use Rattle.std.specs.Prelude.{◌≡◌, ◌+◌, ◌<◌, ◌≤◌, ◌^◌, ℕ, true, if◌then◌else◌, [], ◌∷◌, ◌++◌, filter, length, vec_capacity, OnOk};
+ghost use Rattle.id_lists.specs.Lists.{AreLists, list_at};
+ghost use Rattle.fizz_task.specs.Board.{Board, IsBoard, state_at, waiters, waits_for};
+ghost use Rattle.fizz_task.specs.Calls.{dropped, settled};
 ghost use Rattle.fizz_task.specs.Indexed.{DiffersAt, HasPlaces, IsAdded, IsGuide, IsIndexed, IsRoomier, moved, name_places, owner_list, owner_places};
 
 use crate::columns::Columns;
-use crate::places::move_to;
-use fizz_text::OutOfMemory;
+use crate::places::{move_to, name_list};
+use fizz_text::{OutOfMemory, Text};
 use id_lists::IdLists;
 
 /// How many lists more there shall be for so many tasks: about as many as tasks, and in few steps.
@@ -150,5 +150,75 @@ pub(crate) fn drop_all<W: Drop>(
             columns.let_go(task);
             place(columns, by_owner, by_name, task);
         }
+    }
+}
+
+fn push_if(found: &mut Vec<u32>, task: u32, wanted: bool)
+    requires { wanted ≡ true → length found.old.items < vec_capacity found.old }
+    ensures items { found.new.items ≡ found.old.items ++ (if wanted then task ∷ [] else []) }
+    ensures room { vec_capacity found.new ≡ vec_capacity found.old }
+{
+    if wanted {
+        found.push_reserved(task);
+    }
+}
+
+/// Finds the tasks of a list that wait for a resource.
+fn find_waiting<W: Drop>(
+    columns: &Columns<W>,
+    by_name: &IdLists,
+    found: &mut Vec<u32>,
+    name: &Text,
+    list: u32,
+)
+    requires empty { found.old.items ≡ [] }
+    requires lists { AreLists by_name.now }
+    requires room { by_name.now.ids ≤ vec_capacity found.old }
+    ensures found { found.new.items ≡ filter (λ n. waits_for name.now (state_at columns.now.states n)) (list_at by_name.now.lists list) }
+    ensures room { vec_capacity found.new ≡ vec_capacity found.old }
+{
+    let mut next = by_name.first(list);
+    while let Some(task) = next {
+        push_if(found, task, columns.waits_for(task, name));
+        next = by_name.next(task);
+    }
+}
+
+/// Finds the tasks that wait for a resource, in ascending order.
+pub(crate) fn find_all<W: Drop>(
+    columns: &Columns<W>,
+    by_name: &IdLists,
+    found: &mut Vec<u32>,
+    name: &Text,
+)
+    requires places { HasPlaces (length columns.now.states) columns.now.spare by_name.now }
+    requires guide { IsGuide (length columns.now.states) (name_places columns.now (length by_name.now.lists)) by_name.now.lists }
+    requires some { 0 < length columns.now.states }
+    requires room { length columns.now.states ≤ vec_capacity found.old }
+    ensures found { found.new.items ≡ waiters name.now columns.now.states }
+    ensures room { vec_capacity found.new ≡ vec_capacity found.old }
+{
+    let list = name_list(name, by_name.list_count());
+    found.clear();
+    find_waiting(columns, by_name, found, name, list);
+    found.sort_unstable();
+}
+
+/// Makes these tasks runnable, which are those that wait for a resource.
+pub(crate) fn wake_all<W: Drop>(
+    columns: &mut Columns<W>,
+    by_owner: &mut IdLists,
+    by_name: &mut IdLists,
+    tasks: &[u32],
+    name: &Text,
+)
+    requires indexed { IsIndexed columns.old by_owner.old by_name.old }
+    requires waiting { tasks.now ≡ waiters name.now columns.old.states }
+    ensures woken { columns.new ≡ settled name.now columns.old }
+    ensures indexed { IsIndexed columns.new by_owner.new by_name.new }
+{
+    for task in tasks {
+        columns.wake(*task, name);
+        place(columns, by_owner, by_name, *task);
     }
 }

@@ -21,6 +21,8 @@ pub struct Tasks<W> {
     by_owner: IdLists,
     /// Each task that waits, in a list by the name of the resource.
     by_name: IdLists,
+    /// The tasks that were woken last, with room for all.
+    woken: Vec<u32>,
 }
 
 impl<W> Model for Tasks<W> {
@@ -30,9 +32,12 @@ impl<W> Model for Tasks<W> {
 
     ghost use Rattle.fizz_task.specs.Indexed.{IsIndexed};
 
+    ghost use Rattle.std.specs.Prelude.{◌+◌, ◌≤◌, length, vec_capacity};
+
     ghost view = { λ t. t.columns };
 
-    ghost invariant = { λ t. IsIndexed t.columns t.by_owner t.by_name };
+    ghost invariant = { λ t. IsIndexed t.columns t.by_owner t.by_name
+        × (length t.columns.states + t.columns.spare ≤ vec_capacity t.woken) };
 }
 
 impl<W> Tasks<W> {
@@ -46,6 +51,7 @@ impl<W> Tasks<W> {
             columns: Columns::new(alloc),
             by_owner: IdLists::new(alloc),
             by_name: IdLists::new(alloc),
+            woken: Vec::new(alloc),
         }
     }
 }
@@ -71,6 +77,7 @@ impl<W: Drop> Tasks<W> {
             (more_owners, more_names),
             n,
         )?;
+        self.woken.reserve(tasks as usize)?;
         self.columns.reserve(n)?;
         indexing::grow_owners(&self.columns, &mut self.by_owner, more_owners);
         indexing::grow_names(&self.columns, &mut self.by_name, more_names);
@@ -182,12 +189,23 @@ impl<W: Drop> Tasks<W> {
     }
 
     /// Makes all tasks that wait for a resource runnable, in ascending order. Their count is answered. It takes time in
-    /// proportion to the tasks that were made.
+    /// proportion to them, but for putting them into order.
     pub fn settle(&mut self, name: &Text) -> u32
         ensures count { result ≡ length (waiters name.now self.old.states) }
         ensures settled { self.new ≡ settled name.now self.old }
     {
-        self.columns.settle(name)
+        if self.columns.made() == 0 {
+            return 0;
+        }
+        indexing::find_all(&self.columns, &self.by_name, &mut self.woken, name);
+        indexing::wake_all(
+            &mut self.columns,
+            &mut self.by_owner,
+            &mut self.by_name,
+            &self.woken,
+            name,
+        );
+        self.woken.len() as u32
     }
 
     /// Lets all tasks of an owner go. It takes time in proportion to them.
