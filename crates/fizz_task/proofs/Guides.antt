@@ -1,8 +1,8 @@
 -- Tasks stay where their owners and names say when one of them is moved.
-use Rattle.std.proofs.Common.{◌≡◌, ℕ, ◌+◌, ◌-◌, ◌%◌, ◌≤◌, ◌<◌, ◌^◌, Option, Some, None, List, [], ◌∷◌, ◌++◌, length, slice_set, map, inl, inr, refl, sym, ap, ◌∙◌, subst, arith}
+use Rattle.std.proofs.Common.{◌≡◌, ℕ, ◌+◌, ◌-◌, ◌%◌, ◌<◌, Option, Some, None, List, [], ◌∷◌, length, inl, inr, refl, sym, ap, ◌∙◌, subst, arith}
 use Rattle.std.proofs.lemmas.Bool.{cases_eq}
 use Rattle.std.proofs.lemmas.List.{get_or_append_left, length-append, length-map, length-set}
-use Rattle.id_lists.specs.Lists.{AreLists, Lists, list_at, times, times_in_all}
+use Rattle.id_lists.specs.Lists.{AreLists, Lists, list_at, times}
 use Rattle.id_lists.specs.Calls.{CanPush, list_without, with_pushed, without}
 use Rattle.id_lists.proofs.Counts.{list_map, none_after, one_same, other_after, pushed_other, pushed_same, times-append}
 use Rattle.fizz_task.specs.declared.state.State.{State}

@@ -1,9 +1,8 @@
 -- The tasks of an owner are let go one after another.
-use Rattle.std.proofs.Common.{◌≡◌, ℕ, zero, suc, ◌+◌, ◌≤◌, ◌<◌, Bool, true, false, not, cond, eqb, Option, Some, None, List, [], ◌∷◌, ◌++◌, length, filter, get_or, slice_set, inl, inr, refl, sym, ap, ◌∙◌, subst, arith}
-use Rattle.std.specs.Option.{option_eq}
-use Rattle.std.proofs.lemmas.Bool.{both_ways, cases_Bool, cases_eq, cases_lt, cond-false, cond-true, eq-eqb, eqb-true, false≢true, ne_eqb}
-use Rattle.std.proofs.lemmas.List.{ext_get_or, get_or-set_other, get_or-set_same, get_or_past, length-set}
-use Rattle.id_lists.specs.Lists.{AreLists, Lists, first_of, list_at, next_of, times as times_in, times_in_all}
+use Rattle.std.proofs.Common.{◌≡◌, ℕ, zero, suc, ◌≤◌, ◌<◌, true, false, not, cond, eqb, Option, Some, None, List, [], ◌∷◌, length, get_or, slice_set, inl, inr, refl, sym, ap, ◌∙◌, subst, arith}
+use Rattle.std.proofs.lemmas.Bool.{both_ways, cases_Bool, cases_eq, cond-false, cond-true, eq-eqb, eqb-true, false≢true, ne_eqb}
+use Rattle.std.proofs.lemmas.List.{ext_get_or, get_or-set_other, get_or-set_same, length-set}
+use Rattle.id_lists.specs.Lists.{Lists, first_of, list_at, next_of, times as times_in}
 use Rattle.id_lists.specs.Calls.{list_without, without}
 use Rattle.id_lists.proofs.Counts.{list_map, next_after, times_at}
 use Rattle.id_lists.proofs.Chains.{IsSplit, first_stands, split_at_id}
@@ -138,18 +137,19 @@ module _ {W : Type 0} where
         → IsDropping owner list start now o n next × (length (rest next (list_at o.lists list)) < length (rest (Some k) (list_at o.lists list)))
     dropping_kept next is other = subst
         (λ (m : Option ℕ). IsDropping owner list start now o n m × (length (rest m (list_at o.lists list)) < length (rest (Some k) (list_at o.lists list))))
-        (sym (is ∙ next_is))
-        (record {
-          indexed = d.indexed;
-          board = d.board;
-          own = d.own;
-          stands = λ m first. back_stays k (list_at o.lists list) once split m (first_stands split.back m first);
-          left = λ m own there. subst (λ (l : List ℕ). 0 < times_in m l) (sym (rest_stays k (list_at o.lists list) once split))
-              (behind k (list_at o.lists list) once split m
-              (λ e. both_ways (is_owned owner now.owners m) (ap (is_owned owner now.owners) e ∙ other) own) (d.left m own there));
-          same = d.same;
-        },
-        omega (arith, ap length (rest_stays k (list_at o.lists list) once split), ap length (rest_is k (list_at o.lists list) once split)))
+        (sym (is ∙ next_is)) (
+          record {
+            indexed = d.indexed;
+            board = d.board;
+            own = d.own;
+            stands = λ m first. back_stays k (list_at o.lists list) once split m (first_stands split.back m first);
+            left = λ m own there. subst (λ (l : List ℕ). 0 < times_in m l) (sym (rest_stays k (list_at o.lists list) once split))
+                (behind k (list_at o.lists list) once split m
+                (λ e. both_ways (is_owned owner now.owners m) (ap (is_owned owner now.owners) e ∙ other) own) (d.left m own there));
+            same = d.same;
+          },
+          omega (arith, ap length (rest_stays k (list_at o.lists list) once split), ap length (rest_is k (list_at o.lists list) once split)),
+        )
 
     pub dropping_gone : (new : Board W) (o' n' : Lists) (next : Option ℕ) → next ≡ next_of k o.lists → is_owned owner now.owners k ≡ true
         → new ≡ let_go k now → IsBoard new → IsIndexed new o' n'
@@ -157,20 +157,21 @@ module _ {W : Type 0} where
         → IsDropping owner list start new o' n' next × (length (rest next (list_at o'.lists list)) < length (rest (Some k) (list_at o.lists list)))
     dropping_gone new o' n' next is own gone good indexed moves = subst
         (λ (m : Option ℕ). IsDropping owner list start new o' n' m × (length (rest m (list_at o'.lists list)) < length (rest (Some k) (list_at o.lists list))))
-        (sym (is ∙ next_is))
-        (record {
-          indexed = indexed;
-          board = good;
-          own = d.own ∙ ap (λ c. owner_list c owner) (sym same_count);
-          stands = λ m first. subst (λ (l : List ℕ). 0 < times_in m l) (sym new_list)
-              (back_goes k (list_at o.lists list) once split m (first_stands split.back m first));
-          left = λ m owned there. subst (λ (l : List ℕ). 0 < times_in m l) (sym new_rest)
-              (behind k (list_at o.lists list) once split m (other m there)
-              (d.left m (ap (λ (os : List (Option ℕ)). is_owned owner os m) (sym same_owners) ∙ owned)
-              (sym (ap is_gone (same_state m (other m there))) ∙ there)));
-          same = ap (dropped owner) gone ∙ dropped_let_go owner now k d.board.owned dropping_inside own ∙ d.same;
-        },
-        omega (arith, ap length new_rest, ap length (rest_is k (list_at o.lists list) once split)))
+        (sym (is ∙ next_is)) (
+          record {
+            indexed = indexed;
+            board = good;
+            own = d.own ∙ ap (λ c. owner_list c owner) (sym same_count);
+            stands = λ m first. subst (λ (l : List ℕ). 0 < times_in m l) (sym new_list)
+                (back_goes k (list_at o.lists list) once split m (first_stands split.back m first));
+            left = λ m owned there. subst (λ (l : List ℕ). 0 < times_in m l) (sym new_rest)
+                (behind k (list_at o.lists list) once split m (other m there)
+                (d.left m (ap (λ (os : List (Option ℕ)). is_owned owner os m) (sym same_owners) ∙ owned)
+                (sym (ap is_gone (same_state m (other m there))) ∙ there)));
+            same = ap (dropped owner) gone ∙ dropped_let_go owner now k d.board.owned dropping_inside own ∙ d.same;
+          },
+          omega (arith, ap length new_rest, ap length (rest_is k (list_at o.lists list) once split)),
+        )
       where
         same_owners : new.owners ≡ now.owners
         same_owners = ap (λ (b : Board W). b.owners) gone

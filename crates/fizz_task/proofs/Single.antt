@@ -1,13 +1,13 @@
 -- What is kept of tasks stays in order when one of them is let go, or becomes runnable.
-use Rattle.std.proofs.Common.{◌≡◌, ℕ, ◌+◌, ◌-◌, ◌^◌, ◌≤◌, ◌<◌, Bool, true, false, not, cond, eqb, Option, Some, None, List, [], ◌∷◌, ◌++◌, length, filter, slice_set, inl, inr, refl, sym, ap, ◌∙◌, subst, arith}
+use Rattle.std.proofs.Common.{◌≡◌, ℕ, ◌+◌, ◌-◌, ◌^◌, ◌≤◌, ◌<◌, Bool, true, false, not, cond, eqb, Option, None, List, [], ◌∷◌, ◌++◌, length, filter, slice_set, inl, inr, refl, sym, ap, ◌∙◌, subst, arith}
 use Rattle.std.specs.Str.{bytes_eq}
 use Rattle.std.proofs.lemmas.Bool.{cases_eq, cond-true, eq-eqb, false≢true, ne_eqb}
 use Rattle.std.proofs.lemmas.List.{get_or-set_other, get_or-set_same, length-append}
 use Rattle.fizz_task.specs.declared.state.State.{State}
 use Rattle.fizz_task.specs.declared.state.State.TheVariants.{Gone, Runnable, Claimed, Waiting}
-use Rattle.fizz_task.specs.Board.{claim_of, count_of, is_claimed, is_runnable, is_waiting, one, state_at, times, waits_for}
+use Rattle.fizz_task.specs.Board.{claim_of, is_claimed, is_runnable, is_waiting, one, state_at, times, waits_for}
 use Rattle.fizz_task.specs.Calls.{woken}
-use Rattle.fizz_task.specs.Stored.{HasCounts, HasRoom, IsKept, IsQueue, least_times, most_times, runnable_in}
+use Rattle.fizz_task.specs.Stored.{HasCounts, IsQueue, least_times, most_times, runnable_in}
 use Rattle.fizz_task.proofs.Keeping.{IsKind, Sound, counts_set, gone_is, kept_set, numbered_set, queue_set, room_set}
 use Rattle.fizz_task.proofs.Lists.{count-at, counts_fit, inside_at, one_other, one_same, times-push}
 use Rattle.fizz_task.proofs.Dropping.{few_most, filter_twice}

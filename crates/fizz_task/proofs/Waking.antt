@@ -1,21 +1,21 @@
 -- The tasks that wait for a resource are found, put in order and woken.
-use Rattle.std.proofs.Common.{◌≡◌, ◌⊎◌, ℕ, zero, suc, ◌+◌, ◌≤◌, ◌<◌, Bool, true, false, cond, eqb, Option, Some, None, List, [], ◌∷◌, ◌++◌, length, map, filter, drop, get_or, slice_set, inl, inr, refl, sym, ap, ◌∙◌, subst, append_assoc, arith}
+use Rattle.std.proofs.Common.{◌≡◌, ◌⊎◌, ℕ, suc, ◌+◌, ◌≤◌, ◌<◌, Bool, true, false, cond, eqb, Option, Some, List, [], ◌∷◌, ◌++◌, length, map, filter, get_or, slice_set, inl, inr, refl, sym, ap, ◌∙◌, subst, append_assoc, arith}
 use Rattle.std.specs.Str.{bytes_eq}
 use Rattle.std.specs.List.{sum_by}
 use Rattle.std.specs.List.Sorted.{IsNonDecreasing, IsPermutation}
-use Rattle.std.proofs.lemmas.Bool.{both_ways, cases_Bool, cases_eq, cases_lt, cases_order, cond-false, cond-true, false≢true}
+use Rattle.std.proofs.lemmas.Bool.{cases_Bool, cases_eq, cases_lt, cases_order, cond-false, cond-true, false≢true}
 use Rattle.std.proofs.lemmas.List.{append-nil, ext_get_or, length-append, get_or-set_other, get_or-set_same, length-map, length-set, map-set, set-get_or}
 use Rattle.std.proofs.lemmas.List.Elements.{filter-append}
 use Rattle.std.proofs.lemmas.List.Sums.{sum_by-cons}
 use Rattle.std.proofs.lemmas.Slice.Eq.{bytes_eq-Decides}
 use Rattle.std.proofs.lemmas.List.Sorted.{sum_by-IsPermutation}
-use Rattle.id_lists.specs.Lists.{AreLists, Lists, first_of, list_at, next_of, times as times_in, times_in_all}
+use Rattle.id_lists.specs.Lists.{AreLists, Lists, first_of, list_at, next_of, times as times_in}
 use Rattle.id_lists.specs.Lists.{one as one_in}
 use Rattle.id_lists.proofs.Counts.{few_ids, next_after, times_at}
 use Rattle.id_lists.proofs.Chains.{IsSplit, first_stands, split_at_id}
 use Rattle.fizz_task.specs.declared.state.State.{State}
 use Rattle.fizz_task.specs.declared.state.State.TheVariants.{Gone, Runnable, Claimed, Waiting}
-use Rattle.fizz_task.specs.Board.{Board, count_of, is_runnable, numbers_from, one, state_at, times, waiters, waits_for}
+use Rattle.fizz_task.specs.Board.{Board, numbers_from, one, state_at, times, waiters, waits_for}
 use Rattle.fizz_task.specs.Calls.{settled, woken, woken_one}
 use Rattle.fizz_task.specs.Indexed.{DiffersAt, IsFinding, IsGuide, IsIndexed, IsWaking, name_list, name_place, name_places, rest}
 use Rattle.fizz_task.proofs.Lists.{count-length, one_other, one_same, times-filter}
@@ -287,14 +287,16 @@ module _ (test : ℕ → Bool) (all : Lists) (list : ℕ) (found : List ℕ) (k 
       → IsFinding test (list_at all.lists list) found' next × (length (rest next (list_at all.lists list)) < length (rest (Some k) (list_at all.lists list)))
   finding_more found' next is more = subst
       (λ (m : Option ℕ). IsFinding test (list_at all.lists list) found' m × (length (rest m (list_at all.lists list)) < length (rest (Some k) (list_at all.lists list))))
-      (sym (is ∙ next_is))
-      (record {
-        stands = λ m first. back_stays k (list_at all.lists list) once split m (first_stands split.back m first);
-        total = ap (λ (l : List ℕ). l ++ filter test (rest (first_of split.back) (list_at all.lists list))) more
-            ∙ append_assoc found (filter test (k ∷ [])) (filter test (rest (first_of split.back) (list_at all.lists list)))
-            ∙ ap (λ (l : List ℕ). found ++ (filter test (k ∷ []) ++ filter test l)) (rest_stays k (list_at all.lists list) once split)
-            ∙ ap (λ (l : List ℕ). found ++ l) (sym (filter-append test (k ∷ []) split.back)) ∙ left_is;
-      }, smaller)
+      (sym (is ∙ next_is)) (
+        record {
+          stands = λ m first. back_stays k (list_at all.lists list) once split m (first_stands split.back m first);
+          total = ap (λ (l : List ℕ). l ++ filter test (rest (first_of split.back) (list_at all.lists list))) more
+              ∙ append_assoc found (filter test (k ∷ [])) (filter test (rest (first_of split.back) (list_at all.lists list)))
+              ∙ ap (λ (l : List ℕ). found ++ (filter test (k ∷ []) ++ filter test l)) (rest_stays k (list_at all.lists list) once split)
+              ∙ ap (λ (l : List ℕ). found ++ l) (sym (filter-append test (k ∷ []) split.back)) ∙ left_is;
+        },
+        smaller,
+      )
 
   -- there is room for one more
   pub finding_fits : (room : ℕ) → test k ≡ true → all.ids ≤ room → length found < room

@@ -1,5 +1,5 @@
 -- A list that is gone through from its first id on, while some of its ids leave it.
-use Rattle.std.proofs.Common.{◌≡◌, ℕ, zero, suc, ◌+◌, ◌≤◌, ◌<◌, true, false, eqb, Option, Some, None, List, [], ◌∷◌, ◌++◌, length, inl, inr, refl, sym, ap, ◌∙◌, subst, append_assoc, arith}
+use Rattle.std.proofs.Common.{◌≡◌, ℕ, ◌+◌, ◌≤◌, ◌<◌, eqb, Some, List, [], ◌∷◌, ◌++◌, inl, inr, refl, sym, ap, ◌∙◌, append_assoc, arith}
 use Rattle.std.proofs.lemmas.Bool.{cases_eq, cond-false, cond-true, eq-eqb, ne_eqb}
 use Rattle.std.proofs.lemmas.List.Elements.{filter-append}
 use Rattle.id_lists.specs.Lists.{after, first_of, one, times}
@@ -37,13 +37,13 @@ module _ (id : ℕ) (ids : List ℕ) (once : (n : ℕ) → times n ids ≤ 1) (s
   rest_stays =
       ap (rest (first_of split.back)) (split.is ∙ sym (append_assoc split.front (id ∷ []) split.back))
       ∙ rest_back (split.front ++ id ∷ []) split.back
-          (λ n. omega (arith, all_once n, times-append n (split.front ++ id ∷ []) split.back, times-append n split.front (id ∷ [])))
+      (λ n. omega (arith, all_once n, times-append n (split.front ++ id ∷ []) split.back, times-append n split.front (id ∷ [])))
 
   pub without_is : list_without id ids ≡ split.front ++ split.back
   without_is = ap (list_without id) split.is ∙ filter-append _ split.front (id ∷ split.back)
       ∙ ap (λ (l : List ℕ). l ++ list_without id (id ∷ split.back)) (without_absent id split.front (omega (arith, all_once id, one_same id id refl)))
       ∙ ap (λ (l : List ℕ). split.front ++ l)
-          (drops_same id id split.back refl ∙ without_absent id split.back (omega (arith, all_once id, one_same id id refl)))
+      (drops_same id id split.back refl ∙ without_absent id split.back (omega (arith, all_once id, one_same id id refl)))
 
   pub rest_goes : rest (first_of split.back) (list_without id ids) ≡ split.back
   rest_goes = ap (rest (first_of split.back)) without_is

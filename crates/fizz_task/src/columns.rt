@@ -157,7 +157,12 @@ impl<W: Drop> Columns<W> {
     }
 
     /// Makes a claimed task runnable again, the last of the queue.
-    pub(crate) fn give_back(&mut self, task: u32, claim: u64, payload: W) -> Result<(), StaleTask<W>>
+    pub(crate) fn give_back(
+        &mut self,
+        task: u32,
+        claim: u64,
+        payload: W,
+    ) -> Result<(), StaleTask<W>>
         ensures exactly { IsOk result ↔ (claim_of (state_at self.old.states task) ≡ Some claim) }
         ensures ok { OnOk result (self.new ≡ returned task payload self.old) }
         ensures refused { IfErr result (IsRefused self.old self.new task payload) }
@@ -209,18 +214,6 @@ impl<W: Drop> Columns<W> {
         self.states[task as usize] = State::Gone;
         self.claimed -= 1;
         Ok(())
-    }
-
-    /// Makes all tasks that wait for a resource runnable, in ascending order. Their count is answered. It takes time in
-    /// proportion to the tasks that were made.
-    pub(crate) fn settle(&mut self, name: &Text) -> u32
-        ensures count { result ≡ length (waiters name.now self.old.states) }
-        ensures settled { self.new ≡ settled name.now self.old }
-    {
-        let count = wake_all(&mut self.states, &mut self.queue, name);
-        self.runnable += count;
-        self.waiting -= count;
-        count
     }
 
     /// Makes a task that waits for a resource runnable, the last of the queue.
@@ -407,29 +400,6 @@ fn wake<W: Drop>(state: &mut State<W>, name: &Text)
     if let State::Waiting(_, payload) = mem::replace(state, State::Gone) {
         *state = State::Runnable(payload);
     }
-}
-
-/// Makes the tasks that wait for a resource runnable, and puts them into the queue.
-fn wake_all<W: Drop>(states: &mut Vec<State<W>>, queue: &mut VecDeque<u32>, name: &Text) -> u32
-    requires few { length states.old.items < 2 ^ 32 }
-    requires room { length queue.old.items + count_of (waits_for name.now) states.old.items ≤ deque_capacity queue.old }
-    ensures count { result ≡ length (waiters name.now states.old.items) }
-    ensures states { states.new.items ≡ map (woken name.now) states.old.items }
-    ensures states_room { vec_capacity states.new ≡ vec_capacity states.old }
-    ensures queue { queue.new.items ≡ queue.old.items ++ waiters name.now states.old.items }
-    ensures queue_room { deque_capacity queue.new ≡ deque_capacity queue.old }
-{
-    let mut count = 0;
-    let mut task = 0;
-    while task < states.len() {
-        if waits_for(&states[task], name) {
-            wake(&mut states[task], name);
-            queue.push_back_reserved(task as u32);
-            count += 1;
-        }
-        task += 1;
-    }
-    count
 }
 
 fn owner_at(owners: &[Option<u32>], task: u32) -> Option<u32>

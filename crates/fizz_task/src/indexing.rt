@@ -17,7 +17,11 @@ pub(crate) fn more_lists(count: u32, tasks: u32) -> u32
     ensures some { 1 < count + result }
 {
     let wanted = tasks.clamp(2, 1_000_000_000);
-    if count < wanted { 2 * wanted - count } else { 0 }
+    if count < wanted {
+        2 * wanted - count
+    } else {
+        0
+    }
 }
 
 /// Makes room for so many lists and ids more.

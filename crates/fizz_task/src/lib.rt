@@ -10,6 +10,5 @@ mod tasks;
 pub use state::{Claimed, StaleTask, TaskState};
 pub use tasks::Tasks;
 
-
 #[cfg(test)]
 mod tests;

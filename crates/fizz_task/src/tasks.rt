@@ -31,7 +31,6 @@ impl<W> Model for Tasks<W> {
     ghost Value = { Board W };
 
     ghost use Rattle.fizz_task.specs.Indexed.{IsIndexed};
-
     ghost use Rattle.std.specs.Prelude.{◌+◌, ◌≤◌, length, vec_capacity};
 
     ghost view = { λ t. t.columns };
@@ -108,12 +107,7 @@ impl<W: Drop> Tasks<W> {
         let task = self.columns.spawn(owner, payload, waits);
         let _ = self.by_owner.add_id();
         let _ = self.by_name.add_id();
-        indexing::place(
-            &self.columns,
-            &mut self.by_owner,
-            &mut self.by_name,
-            task,
-        );
+        indexing::place(&self.columns, &mut self.by_owner, &mut self.by_name, task);
         task
     }
 
@@ -155,12 +149,7 @@ impl<W: Drop> Tasks<W> {
     {
         match self.columns.wait_on(task, claim, payload, resource) {
             Ok(()) => {
-                indexing::place(
-                    &self.columns,
-                    &mut self.by_owner,
-                    &mut self.by_name,
-                    task,
-                );
+                indexing::place(&self.columns, &mut self.by_owner, &mut self.by_name, task);
                 Ok(())
             },
             Err(stale) => Err(stale),
@@ -176,12 +165,7 @@ impl<W: Drop> Tasks<W> {
     {
         match self.columns.done(task, claim) {
             Ok(()) => {
-                indexing::place(
-                    &self.columns,
-                    &mut self.by_owner,
-                    &mut self.by_name,
-                    task,
-                );
+                indexing::place(&self.columns, &mut self.by_owner, &mut self.by_name, task);
                 Ok(())
             },
             Err(now) => Err(now),

@@ -1,7 +1,5 @@
-use Rattle.std.proofs.Common.{◌≡◌, ◌<◌, ℕ, true, false, Option, Some, None, length, sym, ap, ◌∙◌, subst, arith}
-use Rattle.id_lists.specs.Lists.{list_at, next_of}
-use Rattle.fizz_task.specs.Board.{Board}
-use Rattle.fizz_task.specs.Calls.{is_owned}
+use Rattle.std.proofs.Common.{◌<◌, ℕ, Option, Some, length, sym, ◌∙◌, subst, arith}
+use Rattle.id_lists.specs.Lists.{list_at}
 use Rattle.fizz_task.specs.Indexed.{IsDropping, rest}
 use Rattle.fizz_task.proofs.Owned.{dropping_done, dropping_first, dropping_gone, dropping_inside, dropping_kept, let_go_differs}
 use Rattle.fizz_task.proofs.indexing.drop_all.Goals as goal

@@ -1,4 +1,4 @@
-use Rattle.std.proofs.Common.{◌≡◌, ◌≤◌, ◌<◌, ◌∷◌, ◌++◌, [], true, cond, ℕ, Bool, List, Option, Some, filter, length, ap, sym, ◌∙◌, subst, arith}
+use Rattle.std.proofs.Common.{◌<◌, ◌∷◌, ◌++◌, [], cond, ℕ, Bool, Option, Some, length, ap, sym, ◌∙◌, subst, arith}
 use Rattle.std.specs.Vec.{vec_capacity}
 use Rattle.id_lists.specs.Lists.{list_at}
 use Rattle.fizz_task.specs.Board.{state_at, waits_for}

@@ -1,4 +1,4 @@
-use Rattle.std.proofs.Common.{◌≡◌, ℕ, Option, ap, ◌∙◌, subst, arith}
+use Rattle.std.proofs.Common.{ℕ, Option, ap, ◌∙◌, arith}
 use Rattle.fizz_task.specs.Board.{state_at}
 use Rattle.fizz_task.specs.Calls.{owner_at}
 use Rattle.fizz_task.specs.Indexed.{moved, owner_places}

@@ -1,5 +1,4 @@
-use Rattle.std.proofs.Common.{◌≡◌, ℕ, Option, ap, ◌∙◌}
-use Rattle.id_lists.specs.Lists.{Lists}
+use Rattle.std.proofs.Common.{ℕ, Option, ap, ◌∙◌}
 use Rattle.fizz_task.specs.Indexed.{moved, name_places, owner_places}
 use Rattle.fizz_task.proofs.Guides.{added_indexed, placed_indexed}
 use Rattle.fizz_task.proofs.indexing.place.Goals as goal
@@ -15,7 +14,6 @@ returns-clause-names g c =
     c.move_to-2.ensures.moved
     ∙ ap (λ (list : Option ℕ). record c.args.by_name.now { lists = moved list c.args.task c.args.by_name.now.lists })
     (c.name_place.ensures ∙ ap (λ n. name_places c.args.columns.now n c.args.task) c.list_count-2.ensures.count)
-
 
 pub returns-clause-indexed : goal.returns-clause-indexed
 returns-clause-indexed g c old differs indexed =

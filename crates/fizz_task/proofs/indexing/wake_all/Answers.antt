@@ -1,4 +1,4 @@
-use Rattle.std.proofs.Common.{◌≡◌, ◌∷◌, ◌+◌, ℕ, List, drop, get_or, ap, sym, ◌∙◌, subst, arith}
+use Rattle.std.proofs.Common.{◌∷◌, ◌+◌, ℕ, List, drop, get_or, subst}
 use Rattle.std.proofs.lemmas.List.{drop_all, drop_more}
 use Rattle.fizz_task.specs.Indexed.{IsWaking}
 use Rattle.fizz_task.proofs.Waking.{waking_differs, waking_done, waking_first, waking_more}

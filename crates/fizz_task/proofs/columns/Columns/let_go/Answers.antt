@@ -15,24 +15,33 @@ overflow_sub-self g c =
     let inside : c.args.task < length c.self.inside.states.items = subst (λ (b : Board g.row.W.Denot). c.args.task < length b.states) (sym c.self.view_is) c.requires in
     let read : c.index_mut.result.now ≡ state_at c.self.inside.states.items c.args.task =
     get_or_read c.self.inside.states.items c.args.task c.index_mut.result.now inside c.index_mut.ensures.value Gone in
-    omega (arith, c.drop_one-gone.ensures.runnable ∙ ap (λ (s : State g.row.W.Denot). one (is_runnable s)) read,
-    (fits_gone c.self.inside.states.items c.args.task _ _ _ c.self.invariant.1 inside).0)
+    omega (
+      arith,
+      c.drop_one-gone.ensures.runnable ∙ ap (λ (s : State g.row.W.Denot). one (is_runnable s)) read,
+      (fits_gone c.self.inside.states.items c.args.task _ _ _ c.self.invariant.1 inside).0,
+    )
 
 pub overflow_sub-self-2 : goal.overflow_sub-self-2
 overflow_sub-self-2 g c =
     let inside : c.args.task < length c.self.inside.states.items = subst (λ (b : Board g.row.W.Denot). c.args.task < length b.states) (sym c.self.view_is) c.requires in
     let read : c.index_mut.result.now ≡ state_at c.self.inside.states.items c.args.task =
     get_or_read c.self.inside.states.items c.args.task c.index_mut.result.now inside c.index_mut.ensures.value Gone in
-    omega (arith, c.drop_one-gone.ensures.claimed ∙ ap (λ (s : State g.row.W.Denot). one (is_claimed s)) read,
-    (fits_gone c.self.inside.states.items c.args.task _ _ _ c.self.invariant.1 inside).1)
+    omega (
+      arith,
+      c.drop_one-gone.ensures.claimed ∙ ap (λ (s : State g.row.W.Denot). one (is_claimed s)) read,
+      (fits_gone c.self.inside.states.items c.args.task _ _ _ c.self.invariant.1 inside).1,
+    )
 
 pub overflow_sub-self-3 : goal.overflow_sub-self-3
 overflow_sub-self-3 g c =
     let inside : c.args.task < length c.self.inside.states.items = subst (λ (b : Board g.row.W.Denot). c.args.task < length b.states) (sym c.self.view_is) c.requires in
     let read : c.index_mut.result.now ≡ state_at c.self.inside.states.items c.args.task =
     get_or_read c.self.inside.states.items c.args.task c.index_mut.result.now inside c.index_mut.ensures.value Gone in
-    omega (arith, c.drop_one-gone.ensures.waiting ∙ ap (λ (s : State g.row.W.Denot). one (is_waiting s)) read,
-    (fits_gone c.self.inside.states.items c.args.task _ _ _ c.self.invariant.1 inside).2)
+    omega (
+      arith,
+      c.drop_one-gone.ensures.waiting ∙ ap (λ (s : State g.row.W.Denot). one (is_waiting s)) read,
+      (fits_gone c.self.inside.states.items c.args.task _ _ _ c.self.invariant.1 inside).2,
+    )
 
 pub invariant_of-self : goal.invariant_of-self
 invariant_of-self g c =

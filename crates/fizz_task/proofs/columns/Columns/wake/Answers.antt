@@ -1,4 +1,4 @@
-use Rattle.std.proofs.Common.{◌≡◌, ◌+◌, ◌≤◌, ◌<◌, ◌∷◌, ◌++◌, [], ℕ, true, List, length, slice_set, refl, sym, ap, ◌∙◌, subst, arith}
+use Rattle.std.proofs.Common.{◌≡◌, ◌+◌, ◌≤◌, ◌<◌, true, List, length, slice_set, refl, sym, ap, ◌∙◌, subst, arith}
 use Rattle.std.proofs.lemmas.List.{get_or_read}
 use Rattle.fizz_task.specs.declared.state.State.{State}
 use Rattle.fizz_task.specs.declared.state.State.TheVariants.{Gone}
@@ -6,7 +6,7 @@ use Rattle.fizz_task.specs.Board.{Board, state_at, waits_for}
 use Rattle.fizz_task.specs.Calls.{woken, woken_one}
 use Rattle.fizz_task.specs.Stored.{runnable_in}
 use Rattle.fizz_task.proofs.Keeping.{sound_same}
-use Rattle.fizz_task.proofs.Single.{IsWoken, fits_woken, some_waits, sound_woken, view_woken, waits_inside, woken_is}
+use Rattle.fizz_task.proofs.Single.{fits_woken, some_waits, sound_woken, view_woken, waits_inside, woken_is}
 use Rattle.fizz_task.proofs.Views.{board_same}
 use Rattle.fizz_task.proofs.columns.Columns.wake.Goals as goal
 
@@ -17,8 +17,12 @@ push_back_reserved-requires g c =
     subst (λ (b : Board g.row.W.Denot). waits_for c.args.name.now (state_at b.states c.args.task) ≡ true) (sym c.self.view_is) c.requires in
     let some : 1 ≤ c.self.inside.waiting =
     some_waits states c.args.task _ _ _ _ c.self.invariant.1 (waits_inside _ states c.args.task waits) (woken_is _ _ waits) in
-    omega (arith, c.self.inside.queue.ok.0, (fits_woken _ states _ _ _ _ _ _ _ _ _
-    (record { kept = c.self.invariant.0; counts = c.self.invariant.1; room = c.self.invariant.2 }) some).0)
+    omega (
+      arith,
+      c.self.inside.queue.ok.0,
+      (fits_woken _ states _ _ _ _ _ _ _ _ _
+          (record { kept = c.self.invariant.0; counts = c.self.invariant.1; room = c.self.invariant.2 }) some).0,
+    )
 
 pub overflow_sub-self : goal.overflow_sub-self
 overflow_sub-self g c =

@@ -1,5 +1,5 @@
-use Rattle.std.proofs.Common.{◌≡◌, ◌≤◌, length, sym, ap, ◌∙◌, subst, arith}
-use Rattle.fizz_task.specs.Board.{Board, IsBoard}
+use Rattle.std.proofs.Common.{◌≡◌, length, sym, ap, subst, arith}
+use Rattle.fizz_task.specs.Board.{Board}
 use Rattle.fizz_task.specs.Calls.{dropped}
 use Rattle.fizz_task.proofs.Dropping.{length-dropped}
 use Rattle.fizz_task.proofs.Owned.{dropped_empty}

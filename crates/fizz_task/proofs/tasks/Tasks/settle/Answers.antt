@@ -1,5 +1,4 @@
-use Rattle.std.proofs.Common.{◌≡◌, length, ap, arith}
-use Rattle.fizz_task.specs.Board.{waiters}
+use Rattle.std.proofs.Common.{length, ap, arith}
 use Rattle.fizz_task.proofs.Waking.{waiters_few}
 use Rattle.fizz_task.proofs.tasks.Tasks.settle.Goals as goal
 
