@@ -3,3 +3,8 @@ pub mod Keeping
 pub mod Views
 pub mod Settling
 pub mod Dropping
+pub mod Single
+pub mod Guides
+pub mod Walks
+pub mod Owned
+pub mod Waking

@@ -25,7 +25,7 @@ module _ {W : Type 0} where
   view_push states queue s q = filter_same _ _ queue
       (λ n stands. ap is_runnable (get_or_append_left states (s ∷ []) Gone n (q.made n stands)))
 
-  view_last : (states : List (State W)) (queue : List ℕ) (k : ℕ) → is_runnable (state_at states k) ≡ true
+  pub view_last : (states : List (State W)) (queue : List ℕ) (k : ℕ) → is_runnable (state_at states k) ≡ true
       → runnable_in states (queue ++ k ∷ []) ≡ runnable_in states queue ++ k ∷ []
   view_last states queue k runs =
       filter-append (λ n. is_runnable (state_at states n)) queue (k ∷ [])

@@ -1,17 +1,21 @@
 -- What each call makes of the tasks.
-use Rattle.std.specs.Prelude.{◌≡◌, ◌⊎◌, ◌+◌, ◌-◌, ◌^◌, max, ℕ, Bool, not, if◌then◌else◌, List, [], ◌∷◌, ◌++◌, length, map, filter, nat_eq, slice_index_or, slice_set, Option, Some, None}
+use Rattle.std.specs.Prelude.{◌≡◌, ◌⊎◌, ◌+◌, ◌-◌, ◌^◌, ◌==◌, max, ℕ, Bool, not, if◌then◌else◌, List, [], ◌∷◌, ◌++◌, length, map, filter, nat_eq, slice_index_or, slice_set, Option, Some, None}
 use Rattle.std.specs.Option.{option_eq}
 use Rattle.std.specs.Str.{bytes_eq}
 use Rattle.fizz_task.specs.declared.state.State.{State}
 use Rattle.fizz_task.specs.declared.state.State.TheVariants.{Gone, Runnable, Claimed, Waiting}
-use Rattle.fizz_task.specs.Board.{Board, count_of, is_claimed, waiters}
+use Rattle.fizz_task.specs.Board.{Board, count_of, is_claimed, state_at, waiters}
 
 abbrev pub same_owner : Option ℕ → Option ℕ → Bool
 same_owner = option_eq nat_eq
 
+-- the owner of a task; one that was never made has none
+abbrev pub owner_at : List (Option ℕ) → ℕ → Option ℕ
+owner_at owners task = slice_index_or owners task None
+
 -- whether a task is one of this owner
 abbrev pub is_owned : Option ℕ → List (Option ℕ) → ℕ → Bool
-is_owned owner owners task = same_owner owner (slice_index_or owners task None)
+is_owned owner owners task = same_owner owner (owner_at owners task)
 
 module _ {W : Type 0} where
   abbrev pub no_tasks : Board W
@@ -70,6 +74,20 @@ module _ {W : Type 0} where
   settled name board = record board {
     states = map (woken name) board.states;
     queue = board.queue ++ waiters name board.states;
+  }
+
+  -- one of those that wait becomes runnable, the last of the queue
+  abbrev pub woken_one : List ℕ → ℕ → Board W → Board W
+  woken_one name task board = record board {
+    states = slice_set board.states task (woken name (state_at board.states task));
+    queue = board.queue ++ task ∷ [];
+  }
+
+  -- a task is gone
+  abbrev pub let_go : ℕ → Board W → Board W
+  let_go task board = record board {
+    states = slice_set board.states task Gone;
+    queue = filter (λ n. not (task == n)) board.queue;
   }
 
   abbrev pub without_owned : Option ℕ → List (Option ℕ) → List (State W) → List (State W)

@@ -2,3 +2,4 @@ pub mod Board
 pub mod Calls
 pub mod Stored
 pub mod Answers
+pub mod Indexed

@@ -1,6 +1,9 @@
 //! Tasks: which can be claimed, which are claimed and under which number, and which wait for a resource.
 #![tactic(auto)]
 
+mod columns;
+mod indexing;
+mod places;
 mod state;
 mod tasks;
 

@@ -1,54 +1,42 @@
-ghost use Rattle.std.specs.Prelude.{◌≡◌, ◌≢◌, ◌↔◌, ◌+◌, ◌<◌, ◌^◌, [], ◌∷◌, ◌++◌, length, slice_index_or, None, Some, IfSome, IfNone, IfErr, IsNone, IsOk, OnOk, OnErr, IsTrue, if◌then◌else◌, ◌≤◌, map, vec_capacity};
-ghost use Rattle.std.specs.VecDeque.{deque_capacity};
-ghost use Rattle.fizz_task.specs.declared.state.State.TheVariants.{Claimed as ClaimedState, Gone, Runnable};
-ghost use Rattle.fizz_task.specs.Board.{claim_of, count_of, is_claimed, is_runnable, is_waiting, one, state_at, waiters, waits_for};
-ghost use Rattle.fizz_task.specs.Calls.{without_owned, woken};
-ghost use Rattle.fizz_task.specs.Answers.{Shows};
-ghost use Rattle.fizz_task.specs.Stored.{Counted, IsFirst, IsQueue, runnable_in};
+ghost use Rattle.std.specs.Prelude.{◌≡◌, ◌≢◌, ◌↔◌, ◌+◌, ◌<◌, ◌^◌, length, slice_index_or, Some, IfSome, IfNone, IfErr, IsNone, IsOk, OnOk, OnErr};
+ghost use Rattle.fizz_task.specs.declared.state.State.TheVariants.{Gone};
+ghost use Rattle.fizz_task.specs.Board.{IsBoard, claim_of, count_of, is_claimed, is_runnable, is_waiting, state_at, waiters};
+ghost use Rattle.fizz_task.specs.Answers.{Claims, IsRefused, Shows};
 
-use crate::state::{Claimed, StaleTask, State, TaskState};
+use crate::columns::Columns;
+use crate::indexing;
+use crate::places::owner_list;
+use crate::state::{Claimed, StaleTask, TaskState};
 use fizz_text::{OutOfMemory, Text};
+use id_lists::IdLists;
 use std::alloc::Global;
-use std::collections::VecDeque;
 use std::marker::Model;
-use std::mem;
 
 /// Tasks with payloads, numbered in the order in which they were made. The runnable ones stand in a queue; a claim takes
 /// the first. No call but `reserve` takes memory.
 #[derive(Drop)]
 pub struct Tasks<W> {
-    owners: Vec<Option<u32>>,
-    states: Vec<State<W>>,
-    /// The runnable tasks in their order, among them some that are gone.
-    queue: VecDeque<u32>,
-    claims: u64,
-    spare: u32,
-    runnable: u32,
-    claimed: u32,
-    waiting: u32,
+    columns: Columns<W>,
+    /// Each task that isn't gone, in a list by its owner.
+    by_owner: IdLists,
+    /// Each task that waits, in a list by the name of the resource.
+    by_name: IdLists,
+    /// The tasks that were woken last, with room for all.
+    woken: Vec<u32>,
 }
 
 impl<W> Model for Tasks<W> {
     ghost use Rattle.fizz_task.specs.Board.{Board};
-    ghost use Rattle.std.specs.Prelude.{◌<◌, ◌^◌, length, vec_capacity};
-    ghost use Rattle.std.specs.VecDeque.{deque_capacity};
 
     ghost Value = { Board W };
 
-    ghost use Rattle.fizz_task.specs.Stored.{HasCounts, HasRoom, IsKept, runnable_in};
+    ghost use Rattle.fizz_task.specs.Indexed.{IsIndexed};
+    ghost use Rattle.std.specs.Prelude.{◌+◌, ◌≤◌, length, vec_capacity};
 
-    ghost view = { λ t. record {
-      owners = t.owners.items;
-      states = t.states.items;
-      queue = runnable_in t.states.items t.queue.items;
-      claims = t.claims;
-      spare = t.spare;
-    } };
+    ghost view = { λ t. t.columns };
 
-    ghost invariant = { λ t. IsKept t.owners.items t.states.items t.queue.items t.claims t.spare
-        × HasCounts t.states.items t.runnable t.claimed t.waiting
-        × HasRoom (length t.states.items) t.spare (vec_capacity t.owners) (vec_capacity t.states)
-        (deque_capacity t.queue) };
+    ghost invariant = { λ t. IsIndexed t.columns t.by_owner t.by_name
+        × (length t.columns.states + t.columns.spare ≤ vec_capacity t.woken) };
 }
 
 impl<W> Tasks<W> {
@@ -59,22 +47,16 @@ impl<W> Tasks<W> {
         ensures { result ≡ no_tasks }
     {
         Tasks {
-            owners: Vec::new(alloc),
-            states: Vec::new(alloc),
-            queue: VecDeque::new(alloc),
-            claims: 0,
-            spare: 0,
-            runnable: 0,
-            claimed: 0,
-            waiting: 0,
+            columns: Columns::new(alloc),
+            by_owner: IdLists::new(alloc),
+            by_name: IdLists::new(alloc),
+            woken: Vec::new(alloc),
         }
     }
 }
 
 impl<W: Drop> Tasks<W> {
-    ghost use Rattle.fizz_task.specs.Board.{IsBoard};
     ghost use Rattle.fizz_task.specs.Calls.{HasNoClaim, IsUnclaimed, dropped, ended, put_off, renumbered, reserved, returned, settled, spawned};
-    ghost use Rattle.fizz_task.specs.Answers.{Claims, IsRefused};
 
     /// Makes room for at least `n` tasks more.
     pub fn reserve(&mut self, n: u32) -> Result<(), OutOfMemory>
@@ -82,14 +64,22 @@ impl<W: Drop> Tasks<W> {
         ensures ok { OnOk result (self.new ≡ reserved n self.old) }
         ensures err { OnErr result (self.new ≡ self.old) }
     {
-        if n <= self.spare {
+        if n <= self.columns.spare() {
             return Ok(());
         }
-        let made = self.states.len();
-        self.owners.reserve(n as usize)?;
-        self.states.reserve(n as usize)?;
-        self.queue.reserve(made - self.queue.len() + n as usize)?;
-        self.spare = n;
+        let tasks = self.columns.made() + n;
+        let more_owners = indexing::more_lists(self.by_owner.list_count(), tasks);
+        let more_names = indexing::more_lists(self.by_name.list_count(), tasks);
+        indexing::reserve(
+            &mut self.by_owner,
+            &mut self.by_name,
+            (more_owners, more_names),
+            n,
+        )?;
+        self.woken.reserve(tasks as usize)?;
+        self.columns.reserve(n)?;
+        indexing::grow_owners(&self.columns, &mut self.by_owner, more_owners);
+        indexing::grow_names(&self.columns, &mut self.by_name, more_names);
         Ok(())
     }
 
@@ -97,7 +87,7 @@ impl<W: Drop> Tasks<W> {
     pub fn spare(&self) -> u32
         ensures { result ≡ self.now.spare }
     {
-        self.spare
+        self.columns.spare()
     }
 
     /// How many tasks were made: the number that the next one gets.
@@ -105,7 +95,7 @@ impl<W: Drop> Tasks<W> {
         ensures made { result ≡ length self.now.states }
         ensures board { IsBoard self.now }
     {
-        self.states.len() as u32
+        self.columns.made()
     }
 
     /// Makes a task that waits for a resource, or one that is runnable. Its number is answered.
@@ -114,20 +104,10 @@ impl<W: Drop> Tasks<W> {
         ensures number { result ≡ length self.old.states }
         ensures spawned { self.new ≡ spawned owner payload waits self.old }
     {
-        let task = self.states.len() as u32;
-        self.owners.push_reserved(owner);
-        self.spare -= 1;
-        match waits {
-            None => {
-                self.states.push_reserved(State::Runnable(payload));
-                self.queue.push_back_reserved(task);
-                self.runnable += 1;
-            },
-            Some(resource) => {
-                self.states.push_reserved(State::Waiting(resource, payload));
-                self.waiting += 1;
-            },
-        }
+        let task = self.columns.spawn(owner, payload, waits);
+        let _ = self.by_owner.add_id();
+        let _ = self.by_name.add_id();
+        indexing::place(&self.columns, &mut self.by_owner, &mut self.by_name, task);
         task
     }
 
@@ -137,20 +117,10 @@ impl<W: Drop> Tasks<W> {
         ensures none { IfNone result (self.new ≡ self.old) }
         ensures claimed { IfSome result (Claims self.old self.new) }
     {
-        if self.claims == u64::MAX {
-            return None;
+        match self.columns.claim() {
+            None => None,
+            Some(claimed) => Some(claimed),
         }
-        let task = first_runnable(&mut self.queue, &self.states)?;
-        let claim = self.claims;
-        let payload = claim_state(&mut self.states[task as usize], claim);
-        self.claims += 1;
-        self.runnable -= 1;
-        self.claimed += 1;
-        Some(Claimed {
-            task,
-            claim,
-            payload,
-        })
     }
 
     /// Makes a claimed task runnable again, the last of the queue.
@@ -159,15 +129,10 @@ impl<W: Drop> Tasks<W> {
         ensures ok { OnOk result (self.new ≡ returned task payload self.old) }
         ensures refused { IfErr result (IsRefused self.old self.new task payload) }
     {
-        let now = claim_at(&self.states, task);
-        if now != Some(claim) {
-            return Err(StaleTask { payload, now });
+        match self.columns.give_back(task, claim, payload) {
+            Ok(()) => Ok(()),
+            Err(stale) => Err(stale),
         }
-        self.states[task as usize] = State::Runnable(payload);
-        self.queue.push_back_reserved(task);
-        self.claimed -= 1;
-        self.runnable += 1;
-        Ok(())
     }
 
     /// Makes a claimed task wait for a resource.
@@ -182,14 +147,13 @@ impl<W: Drop> Tasks<W> {
         ensures ok { OnOk result (self.new ≡ put_off task payload resource self.old) }
         ensures refused { IfErr result (IsRefused self.old self.new task payload) }
     {
-        let now = claim_at(&self.states, task);
-        if now != Some(claim) {
-            return Err(StaleTask { payload, now });
+        match self.columns.wait_on(task, claim, payload, resource) {
+            Ok(()) => {
+                indexing::place(&self.columns, &mut self.by_owner, &mut self.by_name, task);
+                Ok(())
+            },
+            Err(stale) => Err(stale),
         }
-        self.states[task as usize] = State::Waiting(resource, payload);
-        self.claimed -= 1;
-        self.waiting += 1;
-        Ok(())
     }
 
     /// Ends a claimed task. Otherwise the number under which it is claimed, if it is, is answered.
@@ -199,45 +163,56 @@ impl<W: Drop> Tasks<W> {
         ensures unchanged { OnErr result (self.new ≡ self.old) }
         ensures refused { IfErr result (λ now. now ≡ claim_of (state_at self.old.states task)) }
     {
-        let now = claim_at(&self.states, task);
-        if now != Some(claim) {
-            return Err(now);
+        match self.columns.done(task, claim) {
+            Ok(()) => {
+                indexing::place(&self.columns, &mut self.by_owner, &mut self.by_name, task);
+                Ok(())
+            },
+            Err(now) => Err(now),
         }
-        self.states[task as usize] = State::Gone;
-        self.claimed -= 1;
-        Ok(())
     }
 
     /// Makes all tasks that wait for a resource runnable, in ascending order. Their count is answered. It takes time in
-    /// proportion to the tasks that were made.
+    /// proportion to them, but for putting them into order.
     pub fn settle(&mut self, name: &Text) -> u32
         ensures count { result ≡ length (waiters name.now self.old.states) }
         ensures settled { self.new ≡ settled name.now self.old }
     {
-        let count = wake_all(&mut self.states, &mut self.queue, name);
-        self.runnable += count;
-        self.waiting -= count;
-        count
+        if self.columns.made() == 0 {
+            return 0;
+        }
+        indexing::find_all(&self.columns, &self.by_name, &mut self.woken, name);
+        indexing::wake_all(
+            &mut self.columns,
+            &mut self.by_owner,
+            &mut self.by_name,
+            &self.woken,
+            name,
+        );
+        self.woken.len() as u32
     }
 
-    /// Lets all tasks of an owner go. It takes time in proportion to the tasks that were made.
+    /// Lets all tasks of an owner go. It takes time in proportion to them.
     pub fn drop_owned(&mut self, owner: Option<u32>)
         ensures { self.new ≡ dropped owner self.old }
     {
-        let gone = drop_all(&mut self.states, &self.owners, owner);
-        self.runnable -= gone.runnable;
-        self.claimed -= gone.claimed;
-        self.waiting -= gone.waiting;
+        if self.columns.made() > 0 {
+            let list = owner_list(owner, self.by_owner.list_count());
+            indexing::drop_all(
+                &mut self.columns,
+                &mut self.by_owner,
+                &mut self.by_name,
+                owner,
+                list,
+            );
+        }
     }
 
     /// How a task stands.
     pub fn state(&self, task: u32) -> TaskState<'_>
         ensures { Shows result (state_at self.now.states task) }
     {
-        match self.states.get(task as usize) {
-            None => TaskState::Gone,
-            Some(state) => shown(state),
-        }
+        self.columns.state(task)
     }
 
     /// The owner of a task that isn't gone.
@@ -245,10 +220,7 @@ impl<W: Drop> Tasks<W> {
         requires { state_at self.now.states task ≢ Gone }
         ensures { result ≡ slice_index_or self.now.owners task None }
     {
-        match self.owners.get(task as usize) {
-            None => None,
-            Some(owner) => *owner,
-        }
+        self.columns.owner(task)
     }
 
     /// Begins the numbers of claims anew, where no task is claimed.
@@ -256,188 +228,24 @@ impl<W: Drop> Tasks<W> {
         requires { IsUnclaimed self.old }
         ensures { self.new ≡ renumbered self.old }
     {
-        self.claims = 0;
+        self.columns.renumber();
     }
 
     pub fn runnable_count(&self) -> u32
         ensures { result ≡ count_of is_runnable self.now.states }
     {
-        self.runnable
+        self.columns.runnable_count()
     }
 
     pub fn claimed_count(&self) -> u32
         ensures { result ≡ count_of is_claimed self.now.states }
     {
-        self.claimed
+        self.columns.claimed_count()
     }
 
     pub fn waiting_count(&self) -> u32
         ensures { result ≡ count_of is_waiting self.now.states }
     {
-        self.waiting
+        self.columns.waiting_count()
     }
-}
-
-/// The number under which a task is claimed.
-fn claim_at<W>(states: &[State<W>], task: u32) -> Option<u64>
-    ensures { result ≡ claim_of (state_at states.now task) }
-{
-    match states.get(task as usize) {
-        Some(State::Claimed(claim)) => Some(*claim),
-        _ => None,
-    }
-}
-
-fn shown<W>(state: &State<W>) -> TaskState<'_>
-    ensures { Shows result state.now }
-{
-    match state {
-        State::Gone => TaskState::Gone,
-        State::Runnable(_) => TaskState::Runnable,
-        State::Claimed(claim) => TaskState::Claimed { claim: *claim },
-        State::Waiting(resource, _) => TaskState::Waiting { resource },
-    }
-}
-
-/// Claims a runnable task, and takes its payload out.
-fn claim_state<W>(state: &mut State<W>, claim: u64) -> W
-    requires { IsTrue (is_runnable state.old) }
-    ensures payload { state.old ≡ Runnable result }
-    ensures claimed { state.new ≡ ClaimedState claim }
-{
-    match mem::replace(state, State::Claimed(claim)) {
-        State::Runnable(payload) => payload,
-        _ => unreachable!(),
-    }
-}
-
-/// Takes the first runnable task out of the queue, and those before it that are gone.
-fn first_runnable<W>(queue: &mut VecDeque<u32>, states: &[State<W>]) -> Option<u32>
-    requires { IsQueue states.now queue.old.items }
-    ensures none { IfNone result (queue.new.items ≡ []) }
-    ensures none_runnable { IfNone result (runnable_in states.now queue.old.items ≡ []) }
-    ensures first { IfSome result (IsFirst states.now queue.old.items queue.new.items) }
-    ensures len { deque_capacity queue.new ≡ deque_capacity queue.old }
-{
-    while let Some(task) = queue.pop_front() {
-        if is_runnable(&states[task as usize]) {
-            return Some(task);
-        }
-    }
-    None
-}
-
-fn is_runnable<W>(state: &State<W>) -> bool
-    ensures { result ≡ is_runnable state.now }
-{
-    matches!(state, State::Runnable(_))
-}
-
-fn waits_for<W>(state: &State<W>, name: &Text) -> bool
-    ensures { result ≡ waits_for name.now state.now }
-{
-    match state {
-        State::Waiting(resource, _) => name.as_bytes() == resource.as_bytes(),
-        _ => false,
-    }
-}
-
-/// Makes a waiting task runnable.
-fn wake<W: Drop>(state: &mut State<W>, name: &Text)
-    requires { IsTrue (waits_for name.now state.old) }
-    ensures { state.new ≡ woken name.now state.old }
-{
-    if let State::Waiting(_, payload) = mem::replace(state, State::Gone) {
-        *state = State::Runnable(payload);
-    }
-}
-
-/// Makes the tasks that wait for a resource runnable, and puts them into the queue.
-fn wake_all<W: Drop>(states: &mut Vec<State<W>>, queue: &mut VecDeque<u32>, name: &Text) -> u32
-    requires few { length states.old.items < 2 ^ 32 }
-    requires room { length queue.old.items + count_of (waits_for name.now) states.old.items ≤ deque_capacity queue.old }
-    ensures count { result ≡ length (waiters name.now states.old.items) }
-    ensures states { states.new.items ≡ map (woken name.now) states.old.items }
-    ensures states_room { vec_capacity states.new ≡ vec_capacity states.old }
-    ensures queue { queue.new.items ≡ queue.old.items ++ waiters name.now states.old.items }
-    ensures queue_room { deque_capacity queue.new ≡ deque_capacity queue.old }
-{
-    let mut count = 0;
-    let mut task = 0;
-    while task < states.len() {
-        if waits_for(&states[task], name) {
-            wake(&mut states[task], name);
-            queue.push_back_reserved(task as u32);
-            count += 1;
-        }
-        task += 1;
-    }
-    count
-}
-
-/// How many tasks of each kind there are.
-#[derive(Clone, Copy)]
-struct Counts {
-    runnable: u32,
-    claimed: u32,
-    waiting: u32,
-}
-
-/// Lets a task go, and counts it by its kind.
-fn drop_one<W: Drop>(state: &mut State<W>, counts: &mut Counts)
-    requires runnable { counts.old.runnable + 1 < 2 ^ 32 }
-    requires claimed { counts.old.claimed + 1 < 2 ^ 32 }
-    requires waiting { counts.old.waiting + 1 < 2 ^ 32 }
-    ensures gone { state.new ≡ Gone }
-    ensures runnable { counts.new.runnable ≡ counts.old.runnable + one (is_runnable state.old) }
-    ensures claimed { counts.new.claimed ≡ counts.old.claimed + one (is_claimed state.old) }
-    ensures waiting { counts.new.waiting ≡ counts.old.waiting + one (is_waiting state.old) }
-{
-    match state {
-        State::Gone => {},
-        State::Runnable(_) => counts.runnable += 1,
-        State::Claimed(_) => counts.claimed += 1,
-        State::Waiting(_, _) => counts.waiting += 1,
-    }
-    *state = State::Gone;
-}
-
-/// Lets a task go where it is owned, and counts it by its kind.
-fn drop_if<W: Drop>(owned: bool, state: &mut State<W>, counts: &mut Counts)
-    requires runnable { counts.old.runnable + 1 < 2 ^ 32 }
-    requires claimed { counts.old.claimed + 1 < 2 ^ 32 }
-    requires waiting { counts.old.waiting + 1 < 2 ^ 32 }
-    ensures gone { state.new ≡ (if owned then Gone else state.old) }
-    ensures runnable { counts.new.runnable ≡ counts.old.runnable + (if owned then one (is_runnable state.old) else 0) }
-    ensures claimed { counts.new.claimed ≡ counts.old.claimed + (if owned then one (is_claimed state.old) else 0) }
-    ensures waiting { counts.new.waiting ≡ counts.old.waiting + (if owned then one (is_waiting state.old) else 0) }
-{
-    if owned {
-        drop_one(state, counts);
-    }
-}
-
-/// Lets the tasks of an owner go, and counts them.
-fn drop_all<W: Drop>(
-    states: &mut Vec<State<W>>,
-    owners: &[Option<u32>],
-    owner: Option<u32>,
-) -> Counts
-    requires few { length states.old.items < 2 ^ 32 }
-    requires owned { length owners.now ≡ length states.old.items }
-    ensures states { states.new.items ≡ without_owned owner owners.now states.old.items }
-    ensures room { vec_capacity states.new ≡ vec_capacity states.old }
-    ensures counts { Counted owner owners.now states.old.items result.runnable result.claimed result.waiting }
-{
-    let mut counts = Counts {
-        runnable: 0,
-        claimed: 0,
-        waiting: 0,
-    };
-    let mut task = 0;
-    while task < states.len() {
-        drop_if(owner == owners[task], &mut states[task], &mut counts);
-        task += 1;
-    }
-    counts
 }
