@@ -224,7 +224,7 @@ steps_then : (prefix : List ℕ) (start middle end : PageState) (toks : List Tok
 steps_then prefix start middle end [] t s one = (end, subst (λ b. Step prefix b t end) (sym s) one, refl)
 steps_then prefix start middle end (u ∷ us) t s one = (s.0, s.1, steps_then prefix s.0 middle end us t s.2 one)
 
-with_rest : (prefix : List ℕ) (start middle : PageState) (a : List ℕ) (toks : List Token) (rest : List ℕ) → Splits a toks rest → Steps prefix start toks middle
+pub with_rest : (prefix : List ℕ) (start middle : PageState) (a : List ℕ) (toks : List Token) (rest : List ℕ) → Splits a toks rest → Steps prefix start toks middle
     → IsWholeText rest ⊎ (¬ IsWholeText rest) → RunsSomewhere prefix start a
 with_rest prefix start middle a toks rest split steps (inl w) =
     let one = text_step prefix middle w.token w.text in

@@ -17,3 +17,4 @@ pub mod RevealsLemmas
 pub mod PageRevealsLemmas
 pub mod PrintedDocumentsLemmas
 pub mod PlacesLemmas
+pub mod ItemsLemmas
