@@ -57,7 +57,7 @@ at_most_one : (b : Bool) → (if b then 1 else 0) ≤ 1
 at_most_one true = omega arith
 at_most_one false = omega arith
 
-numbered_appended : (parent : Option NodeId) (node : NewNode) (dom : DomState) → IsNumbered dom → IsNumbered (with_appended parent node dom)
+pub numbered_appended : (parent : Option NodeId) (node : NewNode) (dom : DomState) → IsNumbered dom → IsNumbered (with_appended parent node dom)
 numbered_appended parent node dom d = record {
   once = λ j. elim (cases_lt j dom.next) [
     | inl old ↦ omega (arith, appended_times j parent node dom d, other_id dom.next j (omega arith), d.once j)

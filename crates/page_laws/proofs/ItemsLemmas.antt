@@ -48,7 +48,7 @@ comment_tag comment.Client more = refl
 comment_tag comment.End more = refl
 comment_tag comment.Space more = refl
 
-token_tag : (t : Token) (more : List ℕ) → is_text t ≡ false → begins_tag (spelling t ++ more) ≡ true
+pub token_tag : (t : Token) (more : List ℕ) → is_text t ≡ false → begins_tag (spelling t ++ more) ≡ true
 token_tag (tok.Start name attributes from) more n = refl
 token_tag (tok.End name from) more n = refl
 token_tag (tok.Void name attributes from) more n = refl
@@ -69,10 +69,10 @@ text_open n (tok.Comment which from) e = absurd (nothing_true e)
 text_open n (tok.Script body from) e = absurd (nothing_true e)
 
 -- A text is not spelled by nothing.
-text_some : (t : Token) → IsToken t → is_text t ≡ true → spelling t ≡ [] → ⊥
+pub text_some : (t : Token) → IsToken t → is_text t ≡ true → spelling t ≡ [] → ⊥
 text_some t is text none = nothing_true (sym (text_no_tag t (60 ∷ []) is text) ∙ ap (λ xs. begins_tag (xs ++ 60 ∷ [])) none)
 
-no_bytes : (a b : List ℕ) → a ++ b ≡ [] → a ≡ []
+pub no_bytes : (a b : List ℕ) → a ++ b ≡ [] → a ≡ []
 no_bytes [] b e = refl
 no_bytes (x ∷ xs) b e = cc
 

@@ -18,3 +18,4 @@ pub mod PageRevealsLemmas
 pub mod PrintedDocumentsLemmas
 pub mod PlacesLemmas
 pub mod ItemsLemmas
+pub mod FirstBytesLemmas

@@ -19,5 +19,5 @@ pub use joins::{laws_of_joins, laws_of_page_joins};
 pub use places::{laws_of_items, laws_of_rest_places, laws_of_shells};
 pub use printing::laws_of_printed_documents;
 pub use reveals::{laws_of_kept_reveals, laws_of_reveals};
-pub use starts::laws_of_starts;
+pub use starts::{laws_of_first_bytes, laws_of_starts};
 pub use views::{laws_of_ends, laws_of_joined_views, laws_of_page_views};
