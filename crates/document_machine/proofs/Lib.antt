@@ -27,3 +27,4 @@ pub mod Plain
 pub mod RunsLemmas
 pub mod SeenLemmas
 pub mod WalksLemmas
+pub mod DecidedRuns

@@ -47,7 +47,7 @@ element_spelled false name attributes inner bytes rest e =
 spelled_on : (bytes rest all : List ℕ) (more : List Token) → all ≡ rest ++ spellings more → bytes ++ all ≡ (bytes ++ rest) ++ spellings more
 spelled_on bytes rest all more e = ap (λ x. bytes ++ x) e ∙ sym (append_assoc bytes rest (spellings more))
 
-forest_spelled : (forest : Forest) (more : List Token) → spellings (forest_toks forest more) ≡ page_bytes forest ++ spellings more
+pub forest_spelled : (forest : Forest) (more : List Token) → spellings (forest_toks forest more) ≡ page_bytes forest ++ spellings more
 forest_spelled empty more = refl
 forest_spelled (tree i (Element name attributes) kids later) more =
     element_spelled (is_void name) name attributes (forest_toks kids) (page_bytes kids) (forest_toks later more) (forest_spelled kids)
@@ -74,7 +74,7 @@ element_may true name attributes room kids inner rest after v t a h k r = ((void
 element_may false name attributes zero kids inner rest after v t a h k r = absurd h
 element_may false name attributes (suc room) kids inner rest after v t a h k r = ((t, a), follows_any after, k room (tok.End name 0 ∷ rest) h (λ b. (t, follows_any b, r)))
 
-forest_may : (forest : Forest) (after : Bool) (room : ℕ) (more : List Token) → MayPrint forest after room → ((b : Bool) → MayBeTokens b more) → MayBeTokens after (forest_toks forest more)
+pub forest_may : (forest : Forest) (after : Bool) (room : ℕ) (more : List Token) → MayPrint forest after room → ((b : Bool) → MayBeTokens b more) → MayBeTokens after (forest_toks forest more)
 forest_may empty after room more h k = k after
 forest_may (tree i (Element name attributes) kids later) after room more h k =
     element_may (is_void name) name attributes room kids (forest_toks kids) (forest_toks later more) after refl h.0 h.1 h.2

@@ -57,7 +57,7 @@ at_most_one : (b : Bool) → (if b then 1 else 0) ≤ 1
 at_most_one true = omega arith
 at_most_one false = omega arith
 
-numbered_appended : (parent : Option NodeId) (node : NewNode) (dom : DomState) → IsNumbered dom → IsNumbered (with_appended parent node dom)
+pub numbered_appended : (parent : Option NodeId) (node : NewNode) (dom : DomState) → IsNumbered dom → IsNumbered (with_appended parent node dom)
 numbered_appended parent node dom d = record {
   once = λ j. elim (cases_lt j dom.next) [
     | inl old ↦ omega (arith, appended_times j parent node dom d, other_id dom.next j (omega arith), d.once j)
@@ -224,7 +224,7 @@ steps_then : (prefix : List ℕ) (start middle end : PageState) (toks : List Tok
 steps_then prefix start middle end [] t s one = (end, subst (λ b. Step prefix b t end) (sym s) one, refl)
 steps_then prefix start middle end (u ∷ us) t s one = (s.0, s.1, steps_then prefix s.0 middle end us t s.2 one)
 
-with_rest : (prefix : List ℕ) (start middle : PageState) (a : List ℕ) (toks : List Token) (rest : List ℕ) → Splits a toks rest → Steps prefix start toks middle
+pub with_rest : (prefix : List ℕ) (start middle : PageState) (a : List ℕ) (toks : List Token) (rest : List ℕ) → Splits a toks rest → Steps prefix start toks middle
     → IsWholeText rest ⊎ (¬ IsWholeText rest) → RunsSomewhere prefix start a
 with_rest prefix start middle a toks rest split steps (inl w) =
     let one = text_step prefix middle w.token w.text in

@@ -57,6 +57,11 @@ pub record StopsAtByte (prefix : List ℕ) (start : PageState) (bytes : List ℕ
 abbrev pub HasMachineFault : List ℕ → PageState → List ℕ → MachineFault → Type 0
 HasMachineFault prefix start bytes fault = StopsAtToken prefix start bytes fault ⊎ StopsAtByte prefix start bytes fault
 
+-- The bytes have some fault.
+pub record HasSomeFault (prefix : List ℕ) (start : PageState) (bytes : List ℕ) : Type 0 where
+  pub fault : MachineFault
+  pub has : HasMachineFault prefix start bytes fault
+
 abbrev pub IsEndingAt : List ℕ → List Token → List OpenElement → ℕ → ℕ → Type 0
 IsEndingAt [] last opened size at = (opened ≢ []) × (at ≡ size)
 IsEndingAt (b ∷ bs) [] opened size at = at + length (b ∷ bs) ≡ size

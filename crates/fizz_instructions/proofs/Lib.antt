@@ -4,3 +4,4 @@ pub mod IdsLemmas
 pub mod ListLemmas
 pub mod BodyMarkLemmas
 pub mod HexadecimalLemmas
+pub mod DecidedLemmas

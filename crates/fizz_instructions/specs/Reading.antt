@@ -18,6 +18,12 @@ pub record IsBodyOf (prefix body : List ℕ) (i : Instruction) (defines : Bool) 
 abbrev pub IsNoBody : List ℕ → List ℕ → Type 0
 IsNoBody prefix body = (i : Instruction) (defines : Bool) → ¬ IsBodyOf prefix body i defines
 
+-- The body is some instruction's.
+pub record HasInstruction (prefix body : List ℕ) : Type 0 where
+  pub instruction : Instruction
+  pub defines : Bool
+  pub body_is : IsBodyOf prefix body instruction defines
+
 -- The body is this instruction's, and its function is known or defined in it. A function may be defined again.
 pub record Says (prefix body : List ℕ) (known : SentFunctions) (i : Instruction) : Type 0 where
   pub defines : Bool

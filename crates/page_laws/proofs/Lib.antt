@@ -17,3 +17,5 @@ pub mod RevealsLemmas
 pub mod PageRevealsLemmas
 pub mod PrintedDocumentsLemmas
 pub mod PlacesLemmas
+pub mod ItemsLemmas
+pub mod FirstBytesLemmas

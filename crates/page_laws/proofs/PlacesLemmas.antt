@@ -21,7 +21,7 @@ pub record TokenLaws : Type 0 where
   pub split : (bytes : List ℕ) (a b : List Token) (r s : List ℕ) → Splits bytes a r → Splits bytes b s → (a ≡ b) × (r ≡ s)
   pub prefix : (prefix more : List ℕ) (toks : List Token) (rest : List ℕ) → Splits (prefix ++ more) toks rest → SplitsBefore prefix toks
 
-nothing_true : false ≡ true → ⊥
+pub nothing_true : false ≡ true → ⊥
 nothing_true e = cc
 
 -- The shell's end
@@ -177,12 +177,12 @@ closed_further a b m c = record {
   closed = c.closed;
 }
 
-still_open-append : (n : ℕ) (xs ys : List Token) → still_open n (xs ++ ys) ≡ still_open (still_open n xs) ys
+pub still_open-append : (n : ℕ) (xs ys : List Token) → still_open n (xs ++ ys) ≡ still_open (still_open n xs) ys
 still_open-append n [] ys = refl
 still_open-append n (x ∷ xs) ys = still_open-append (open_after n x) xs ys
 
 -- Tokens and then the beginning of another one.
-then_begun : (bytes : List ℕ) (toks : List Token) → Tokenizes bytes toks → Splits (bytes ++ 60 ∷ []) toks (60 ∷ [])
+pub then_begun : (bytes : List ℕ) (toks : List Token) → Tokenizes bytes toks → Splits (bytes ++ 60 ∷ []) toks (60 ∷ [])
 then_begun bytes toks are = record {
   whole = ap (λ x. x ++ 60 ∷ []) are.spelled;
   tokens = are.tokens;

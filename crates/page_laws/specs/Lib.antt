@@ -9,3 +9,4 @@ pub mod PageViews
 pub mod NodeReveals
 pub mod PrintedDocuments
 pub mod PagePlaces
+pub mod Markup

@@ -1,12 +1,19 @@
 //! The end of a page's shell, and its rest places.
 
-ghost use Rattle.std.specs.Prelude.{◌≡◌, ◌≤◌, ◌+◌, ◌++◌, ℕ, List, None, length, true};
+ghost use Rattle.std.specs.Prelude.{◌≡◌, ◌≤◌, ◌+◌, ◌++◌, ◌⊎◌, ℕ, Bool, List, None, false, length, true};
+ghost use Rattle.fizz_text.specs.declared.attribute.Attr.{Attr};
+ghost use Rattle.dom_forest.specs.Forest.{Forest, empty, tree};
+ghost use Rattle.dom_forest.specs.declared.node.NewNode.TheVariants.{Element};
+ghost use Rattle.fizz_instructions.specs.Bodies.{script_of};
+ghost use Rattle.fizz_instructions.specs.declared.instruction.Instruction.{Instruction};
 ghost use Rattle.html_read.specs.Faults.{HasSplit, begins_tag};
 ghost use Rattle.html_read.specs.Tokens.{IsToken, Tokenizes, spelling};
 ghost use Rattle.html_read.specs.declared.token.Token.{Token};
 ghost use Rattle.document_machine.specs.Places.{IsClosedAt, IsRestPlace, IsShellEnd, first_late, still_open};
-ghost use Rattle.page_laws.specs.PagePlaces.{HasLateAt, IsClosed, is_late};
+ghost use Rattle.document_machine.specs.Printing.{MayPrint, page_bytes};
+ghost use Rattle.page_laws.specs.PagePlaces.{HasLateAt, IsClosed, IsOneItem, is_late};
 
+use fizz_instructions::laws_of_instructions;
 use html_read::laws_of_tokens;
 
 /// A shell has one end. Where late content has begun, later bytes don't move the end; late content directly after bytes that
@@ -41,4 +48,23 @@ pub fn laws_of_rest_places()
         IsRestPlace prefix a m → IsRestPlace prefix (a ++ b) m }
 {
     laws_of_tokens();
+}
+
+/// Within one item, which is an element with all that stands in it or a script, no place is one of rest but its two ends; of
+/// one item after another, as of a container and its script, the place between them is one too. A printed element is one
+/// item, and so is an instruction's script.
+pub fn laws_of_items()
+    ensures places { (bytes : List ℕ) (m : ℕ) → IsOneItem bytes → IsClosedAt bytes m →
+        (m ≡ 0) ⊎ (m ≡ length bytes) }
+    ensures two { (a b : List ℕ) (m : ℕ) → IsOneItem a → IsOneItem b → IsClosedAt (a ++ b) m →
+        (m ≡ 0) ⊎ ((m ≡ length a) ⊎ (m ≡ length a + length b)) }
+    ensures closed { (bytes : List ℕ) → IsOneItem bytes → IsClosed bytes }
+    ensures element { (i : ℕ) (name : List ℕ) (attributes : List Attr) (kids : Forest) (room : ℕ) →
+        MayPrint (tree i (Element name attributes) kids empty) false room →
+        IsOneItem (page_bytes (tree i (Element name attributes) kids empty)) }
+    ensures script { (prefix : List ℕ) (i : Instruction) (defines : Bool) →
+        IsOneItem (script_of prefix i defines) }
+{
+    laws_of_tokens();
+    laws_of_instructions();
 }
