@@ -252,7 +252,7 @@ static PIECES: [(&[Op], &str, bool, bool, &str); 68] = [
         "[{\"resolve\":\"u\",\"value\":\"x\"}]",
         false,
         false,
-        "<p>a<!-- -->x</p> hole 14 /2 v after a text",
+        "<p>a<!-- -->x</p> hole 13 /2 v after a text",
     ),
     (
         &[

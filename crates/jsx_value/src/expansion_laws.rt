@@ -27,6 +27,7 @@ pub fn laws_of_apps()
 pub fn laws_of_settlements()
     ensures places { (first second : Page) (place : Place) → Settles first second →
         StaysOrOpens (settled_since first second) (shape_of first place) (shape_of second place) }
-    ensures numbers { (file : File) (outcomes : List (Entry Outcome)) (m n : ℕ) (prefix : List ℕ) → m ≤ n →
+    ensures numbers { (file : File) (outcomes : List (Entry Outcome)) (m n : ℕ)
+        (prefix : List ℕ) → m ≤ n →
         Settles (page_with file outcomes m prefix) (page_with file outcomes n prefix) }
 {}

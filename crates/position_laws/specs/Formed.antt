@@ -19,7 +19,8 @@ HasOneOfEach (fail digest) kids other = Unit {0}
 
 abbrev pub AreFormed : Spots → Type 0
 AreFormed none = Unit {0}
-AreFormed (spot label kids other later) = HasOneOfEach label kids other × AreFormed kids × AreFormed other × AreFormed later
+AreFormed (spot label kids other later) =
+    HasOneOfEach label kids other × AreFormed kids × AreFormed other × AreFormed later
 
 abbrev pub IsFormed : One → Type 0
 IsFormed one = HasOneOfEach one.label one.kids one.other × AreFormed one.kids × AreFormed one.other

@@ -31,7 +31,8 @@ label_gaps (fail digest) path inner = []
 abbrev pub gaps_below : List ℕ → ℕ → Spots → List Gap
 gaps_below above n none = []
 gaps_below above n (spot label kids other later) =
-    label_gaps label (above ++ n ∷ []) (gaps_below (above ++ n ∷ []) 0 kids) ++ gaps_below above (n + 1) later
+    label_gaps label (above ++ n ∷ []) (gaps_below (above ++ n ∷ []) 0 kids)
+    ++ gaps_below above (n + 1) later
 
 abbrev pub gaps_of : List ℕ → One → List Gap
 gaps_of path one = label_gaps one.label path (gaps_below path 0 one.kids)
@@ -54,8 +55,10 @@ pub record IsGapIn (root : One) (path : List ℕ) (gap : Gap) : Type 0 where
   pub below : Under path (gap_path gap)
   pub stands : label_at root (gap_path gap) ≡ Some (gap_label gap)
   pub owner : owner_of root (gap_path gap) ≡ owner_of root path
-  pub content : gap ≡ bounded (gap_path gap) → owner_of root (gap_path gap ++ 0 ∷ []) ≡ Some (gap_path gap)
-  pub fallback : gap ≡ bounded (gap_path gap) → owner_of root (gap_path gap ++ 1 ∷ []) ≡ owner_of root path
+  pub content : gap ≡ bounded (gap_path gap)
+      → owner_of root (gap_path gap ++ 0 ∷ []) ≡ Some (gap_path gap)
+  pub fallback : gap ≡ bounded (gap_path gap)
+      → owner_of root (gap_path gap ++ 1 ∷ []) ≡ owner_of root path
 
 -- the own failures and waits of what stands at a path
 abbrev pub own_resources : One → List (List ℕ)
@@ -91,4 +94,5 @@ pub record LiesInGap (gaps : List Gap) (path : List ℕ) (IsOwn : Type 0) : Type
 
 -- None of the resources that the gaps wait for has settled since.
 abbrev pub StillWait : (List ℕ → Bool) → List Gap → Type 0
-StillWait known gaps = (path resource : List ℕ) → Contains gaps (waiting path resource) → known resource ≡ false
+StillWait known gaps =
+    (path resource : List ℕ) → Contains gaps (waiting path resource) → known resource ≡ false

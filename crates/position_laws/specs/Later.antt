@@ -22,4 +22,8 @@ pub data LaterOne (known : List ℕ → Bool) : One → One → Type 0 where
 
 -- a position of the settled tree
 abbrev pub settled_one : One → One
-settled_one one = record { label = settled_label one.label; kids = settled one.kids; other = settled one.other }
+settled_one one = record {
+  label = settled_label one.label;
+  kids = settled one.kids;
+  other = settled one.other;
+}

@@ -17,7 +17,8 @@ or_own n None own = own
 abbrev pub owner_of : One → List ℕ → Option (List ℕ)
 owner_of one [] = None
 owner_of one (n ∷ path) =
-    or_own n (option_and_then (λ below. owner_of below path) (inside one.label one.kids one.other n)) (own_boundary one.label n)
+    or_own n (option_and_then (λ below. owner_of below path) (inside one.label one.kids one.other n))
+    (own_boundary one.label n)
 
 -- an owner below a path, or else that of what stands at the path
 abbrev pub owner_below : List ℕ → Option (List ℕ) → Option (List ℕ) → Option (List ℕ)

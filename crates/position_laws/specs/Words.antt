@@ -30,9 +30,12 @@ cut_in (bounded path) after_text = nest path
 abbrev pub words_sheet : List Word → (Bool → Sheet Cut) → Bool → Sheet Cut
 words_sheet [] more after_text = more after_text
 words_sheet (tag printed ∷ words) more after_text = bytes printed (words_sheet words more false)
-words_sheet (written t ∷ words) more after_text = bytes (text_bytes after_text t) (words_sheet words more true)
-words_sheet (gap g ∷ words) more after_text = cut (cut_in g after_text) (words_sheet words more false)
-words_sheet (joint ∷ words) more after_text = bytes (separator_bytes after_text) (words_sheet words more false)
+words_sheet (written t ∷ words) more after_text =
+    bytes (text_bytes after_text t) (words_sheet words more true)
+words_sheet (gap g ∷ words) more after_text =
+    cut (cut_in g after_text) (words_sheet words more false)
+words_sheet (joint ∷ words) more after_text =
+    bytes (separator_bytes after_text) (words_sheet words more false)
 
 abbrev pub element_words : List ℕ → List Attr → Bool → List Word → List Word
 element_words name attributes is_childless inner =
@@ -43,7 +46,8 @@ element_words name attributes is_childless inner =
 abbrev pub label_words : Label → List ℕ → Bool → List Word → List Word
 label_words nothing path is_childless inner = []
 label_words (text t) path is_childless inner = written t ∷ []
-label_words (element name attributes) path is_childless inner = element_words name attributes is_childless inner
+label_words (element name attributes) path is_childless inner =
+    element_words name attributes is_childless inner
 label_words array path is_childless inner = inner
 label_words boundary path is_childless inner = gap (bounded path) ∷ []
 label_words (wait resource) path is_childless inner = gap (waiting path resource) ∷ []
@@ -53,7 +57,8 @@ label_words (fail digest) path is_childless inner = []
 abbrev pub words_below : List ℕ → ℕ → Spots → List Word
 words_below above n none = []
 words_below above n (spot label kids other later) =
-    label_words label (above ++ n ∷ []) (is_none kids) (words_below (above ++ n ∷ []) 0 kids) ++ words_below above (n + 1) later
+    label_words label (above ++ n ∷ []) (is_none kids) (words_below (above ++ n ∷ []) 0 kids)
+    ++ words_below above (n + 1) later
 
 abbrev pub words_of : List ℕ → One → List Word
 words_of path one = label_words one.label path (is_none one.kids) (words_below path 0 one.kids)
@@ -112,7 +117,8 @@ filled_sheet filling (cut c sheet) = followed_by (fill_cut filling c) (filled_sh
 -- Each filling is printed as its words are, and ends with a joint.
 abbrev pub PrintsFilling : (List ℕ → Bool → Sheet Cut) → (List ℕ → List Word) → Type 0
 PrintsFilling sheets filling =
-    (path : List ℕ) (f : Bool) → sheets path f ≡ words_sheet (filling path ++ joint ∷ []) (λ g. done) f
+    (path : List ℕ) (f : Bool)
+    → sheets path f ≡ words_sheet (filling path ++ joint ∷ []) (λ g. done) f
 
 -- The words of each filling are those of what stands at its path, but for joints.
 abbrev pub FillsWith : One → (List ℕ → List Word) → Type 0

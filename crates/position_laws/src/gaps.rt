@@ -22,7 +22,8 @@ pub fn laws_of_gaps()
         Contains (gaps_of path one) gap → IsGapIn root path gap }
     ensures apart { (path : List ℕ) (one : One) →
         AllPairs (λ g h. Apart (gap_path g) (gap_path h)) (gaps_of path one) }
-    ensures leaves { (known : List ℕ → Bool) (before after : One) (path rest : List ℕ) (label : Label) →
+    ensures leaves { (known : List ℕ → Bool) (before after : One) (path rest : List ℕ)
+        (label : Label) →
         LaterOne known before after → failures_of before ≡ [] →
         label_at after rest ≡ Some label → IsLeaf label →
         LiesInGap (gaps_of path before) (path ++ rest) (owner_of after rest ≡ None) }

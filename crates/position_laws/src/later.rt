@@ -7,11 +7,13 @@ ghost use Rattle.position_laws.specs.Later.{Later, LaterOne, settled_one};
 /// Where more was settled, a position that doesn't wait keeps what it is, and one that waits for a resource that isn't
 /// known yet goes on waiting for it.
 pub fn laws_of_later_positions()
-    ensures grows { (known : List ℕ → Bool) (a b x : One) (path : List ℕ) → LaterOne known a b → at a path ≡ Some x →
+    ensures grows { (known : List ℕ → Bool) (a b x : One) (path : List ℕ) →
+        LaterOne known a b → at a path ≡ Some x →
         ((resource : List ℕ) → x.label ≢ wait resource) →
-        (y : One) × (at b path ≡ Some y) × (x.label ≡ y.label) × Later known x.kids y.kids × Later known x.other y.other }
-    ensures waits { (known : List ℕ → Bool) (a b x : One) (path resource : List ℕ) → LaterOne known a b →
-        at a path ≡ Some x → x.label ≡ wait resource → known resource ≡ false →
+        (y : One) × (at b path ≡ Some y) × (x.label ≡ y.label) × Later known x.kids y.kids
+        × Later known x.other y.other }
+    ensures waits { (known : List ℕ → Bool) (a b x : One) (path resource : List ℕ) →
+        LaterOne known a b → at a path ≡ Some x → x.label ≡ wait resource → known resource ≡ false →
         (y : One) × (at b path ≡ Some y) × (y.label ≡ wait resource) }
 {}
 

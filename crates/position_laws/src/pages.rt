@@ -14,8 +14,8 @@ use jsx_value::{laws_of_expansions, laws_of_settlements};
 /// The position of a place stands at the place's path. Where more has settled, the place stays, and its position is later. Each
 /// boundary has one content and one fallback.
 pub fn laws_of_pages()
-    ensures stand { (page : Page) (place : Place) (path : List ℕ) → is_ordered page.components ≡ true →
-        place_in page path ≡ Some place →
+    ensures stand { (page : Page) (place : Place) (path : List ℕ) →
+        is_ordered page.components ≡ true → place_in page path ≡ Some place →
         at (position_of page root_place) path ≡ Some (position_of page place) }
     ensures stay { (first second : Page) (place : Place) (path : List ℕ) → Settles first second →
         place_in first path ≡ Some place → place_in second path ≡ Some place }

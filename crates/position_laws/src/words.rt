@@ -18,15 +18,19 @@ pub fn laws_of_words()
     ensures same { (known : List ℕ → Bool) (flags : Flags) (before after : One) (path : List ℕ) →
         LaterOne known before after → StillWait known (gaps_of path before) →
         printed_of (piece_sheet flags path before) ≡ printed_of (piece_sheet flags path after) }
-    ensures joined { (sheets : List ℕ → Bool → Sheet Cut) (filling : List ℕ → List Word) (flags : Flags) (path : List ℕ) (one : One) →
-        PrintsFilling sheets filling →
+    ensures joined { (sheets : List ℕ → Bool → Sheet Cut) (filling : List ℕ → List Word)
+        (flags : Flags) (path : List ℕ) (one : One) → PrintsFilling sheets filling →
         printed_of (filled_sheet sheets (piece_sheet flags path one))
-        ≡ printed_of (words_sheet (filled_words filling (words_of path one) ++ end_words flags.embedded) (λ after_text. done) flags.lead) }
-    ensures embedded { (sheets : List ℕ → Bool → Sheet Cut) (filling : List ℕ → List Word) (path : List ℕ) (one : One) (lead : Bool) →
-        PrintsFilling sheets filling →
+        ≡ printed_of (words_sheet
+        (filled_words filling (words_of path one) ++ end_words flags.embedded)
+        (λ after_text. done) flags.lead) }
+    ensures embedded { (sheets : List ℕ → Bool → Sheet Cut) (filling : List ℕ → List Word)
+        (path : List ℕ) (one : One) (lead : Bool) → PrintsFilling sheets filling →
         filled_sheet sheets (piece_sheet (record { lead = lead; embedded = true }) path one)
-        ≡ words_sheet (filled_words filling (words_of path one) ++ joint ∷ []) (λ after_text. done) lead }
-    ensures whole { (known : List ℕ → Bool) (root before after : One) (filling : List ℕ → List Word) (path : List ℕ) →
+        ≡ words_sheet (filled_words filling (words_of path one) ++ joint ∷ [])
+        (λ after_text. done) lead }
+    ensures whole { (known : List ℕ → Bool) (root before after : One)
+        (filling : List ℕ → List Word) (path : List ℕ) →
         FillsWith root filling → LaterOne known before after → at root path ≡ Some after →
         unjoined (filled_words filling (words_of path before)) ≡ words_of path after }
 {}

@@ -77,7 +77,7 @@ fn taken(alloc: Global, nodes: &mut Items<Node>, count: u32) -> Result<Items<Nod
     Ok(forwards)
 }
 
-fn given(value: Given) -> Node {
+fn value_node(value: Given) -> Node {
     match value {
         Given::Text(text) => Node::Value(Expr::Text(Text::fixed(text))),
         Given::Int(number) => Node::Value(Expr::Int(number)),
@@ -134,7 +134,7 @@ fn node(alloc: Global, stack: &mut Stack, op: Op) -> Result<Option<Node>, Fail> 
         Op::Attribute(attribute, value) => {
             stack.props.push(Entry {
                 name: name(attribute),
-                value: given(value),
+                value: value_node(value),
             })?;
             return Ok(None);
         }
@@ -163,7 +163,7 @@ fn app_node(alloc: Global, ops: &[Op]) -> Result<Node, Fail> {
 }
 
 /// `function Use({ name }) { const x = use(name); return x; }`, where it has this name and returns this
-fn fetching(alloc: Global, component: &'static str, result: Expr) -> Result<Component, Fail> {
+fn fetching(alloc: Global, component: &'static str, value: Expr) -> Result<Component, Fail> {
     let fetch = Stmt::Fetch {
         name: name("x"),
         resource: Expr::Name(name("name")),
@@ -172,7 +172,7 @@ fn fetching(alloc: Global, component: &'static str, result: Expr) -> Result<Comp
         name: name(component),
         properties: one(alloc, name("name"))?,
         stmts: one(alloc, fetch)?,
-        result: Node::Value(result),
+        result: Node::Value(value),
     })
 }
 
