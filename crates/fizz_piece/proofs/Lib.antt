@@ -1,4 +1,4 @@
-mod ShapesLemmas
-mod PlacesLemmas
+pub mod ShapesLemmas
+pub mod PlacesLemmas
 mod PrintingLemmas
 mod WorksLemmas

@@ -1,5 +1,5 @@
 -- Places inside places: their paths, and that they weigh less.
-use Rattle.std.proofs.Common.{◌≡◌, ℕ, ◌+◌, ◌<◌, ◌≤◌, List, [], ◌∷◌, ◌++◌, length, drop, get_or, Option, Some, None, refl, sym, ap, ◌∙◌, arith}
+use Rattle.std.proofs.Common.{◌≡◌, ℕ, Bool, ◌+◌, ◌<◌, ◌≤◌, List, [], ◌∷◌, ◌++◌, length, drop, get_or, Option, Some, None, refl, sym, ap, ◌∙◌, arith}
 use Rattle.std.specs.Prelude.{option_and_then, option_map, slice_get}
 use Rattle.std.proofs.lemmas.List.{drop_more}
 use Rattle.std.proofs.lemmas.List.Sums.{get_or-le-sum_by}
@@ -7,7 +7,8 @@ use Rattle.std.proofs.lemmas.Option.{get_or_from_slice_get, same_Some, slice_get
 use Rattle.jsx_value.specs.declared.shape.Shape.{Shape}
 use Rattle.jsx_value.specs.declared.shape.Shape.TheVariants as s
 use Rattle.jsx_value.specs.declared.spot.Kin.{Kin}
-use Rattle.jsx_value.specs.Positions.{Page, Place, shape_of}
+use Rattle.jsx_value.specs.Positions.{Opened, Page, Place, shape_of}
+use Rattle.jsx_value.specs.Settling.{StaysOrOpens, it_stays, it_opens}
 use Rattle.jsx_value.specs.SeenPlaces.{place_of, place_shape}
 use Rattle.jsx_value.specs.Spots.{wait}
 use Rattle.jsx_value.specs.Weights.{AddsUp, inside_of, weight_at}
@@ -69,3 +70,23 @@ pub stand_inside : (page : Page) (path : List ℕ) (place : Place) (shape : Shap
     → place_in page (path ++ n ∷ []) ≡ Some kid
 stand_inside page path place shape opens stands n kid e =
     place_below-push page n place kid (ap (λ (x : Shape Place). place_inside x n) (sym opens) ∙ e) path _ stands
+
+-- Places stay where more has settled.
+module _ (first second : Page) (since : List ℕ → Bool)
+    (grows : (place : Place) → StaysOrOpens since (shape_of first place) (shape_of second place)) where
+  kid_stays : (x y : Opened Place) (n : ℕ) (kid : Place) → StaysOrOpens since x y → place_inside x.shape n ≡ Some kid → place_inside y.shape n ≡ Some kid
+  kid_stays x y n kid (it_stays is) e = ap (λ (o : Opened Place). place_inside o.shape n) (sym is) ∙ e
+  kid_stays x y n kid (it_opens resource is k) e = absurd (no_place kid (sym (ap (λ (o : Shape Place). place_inside o n) is) ∙ e))
+
+  stays_below : (path : List ℕ) (start place : Place) (n : ℕ) (o : Option Place) → place_inside (shape_of first start).shape n ≡ o
+      → option_and_then (λ kid. place_below first kid path) o ≡ Some place
+      → ((kid : Place) → place_below first kid path ≡ Some place → place_below second kid path ≡ Some place)
+      → place_below second start (n ∷ path) ≡ Some place
+  stays_below path start place n None e f go = absurd (no_place place f)
+  stays_below path start place n (Some kid) e f go =
+      ap (option_and_then (λ (p : Place). place_below second p path)) (kid_stays (shape_of first start) (shape_of second start) n kid (grows start) e) ∙ go kid f
+
+  pub place_stays : (path : List ℕ) (start place : Place) → place_below first start path ≡ Some place → place_below second start path ≡ Some place
+  place_stays [] start place e = e
+  place_stays (n ∷ path) start place e =
+      stays_below path start place n (place_inside (shape_of first start).shape n) refl e (λ kid f. place_stays path kid place f)

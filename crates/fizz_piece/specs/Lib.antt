@@ -1,3 +1,4 @@
+pub mod Plans
 pub mod Pieces
 pub mod Places
 pub mod Printing

@@ -218,16 +218,17 @@ fn push_hole<'a>(
     ensures { (page : Spec) → place_in page path.now ≡ Some (place_of kin.now) →
         OnOk result (Prints page (λ (after_text : Bool) (more : Bool → SheetOf Cut). cut (hole path.now resource after_text) (more false)) sheet.old sheet.new) }
 {
-    sheet.kids.push(Kid::Hole {
-        at: sheet.out.len(),
+    let at = sheet.out.len();
+    let lead = sheet.after_text;
+    let hole = Kid::Hole {
+        at,
         path: path_of(alloc, path)?,
         spot: kin.spot,
         scope: kin.scope.copy(alloc)?,
         resource,
-        lead: sheet.after_text,
-    })?;
-    sheet.after_text = false;
-    Ok(())
+        lead,
+    };
+    sheet.push_kid(hole)
 }
 
 /// Cuts out a boundary.
@@ -242,16 +243,16 @@ fn push_boundary<'a>(
         place_in page (path.now ++ 1 ∷ []) ≡ Some (place_of fallback.entry) →
         OnOk result (Prints page (λ (after_text : Bool) (more : Bool → SheetOf Cut). cut (nest path.now) (more false)) sheet.old sheet.new) }
 {
-    sheet.kids.push(Kid::Boundary {
-        at: sheet.out.len(),
+    let place = sheet.out.len();
+    let boundary = Kid::Boundary {
+        at: place,
         path: path_of(alloc, path)?,
         content: content.spot,
         content_scope: content.scope,
         fallback: fallback.spot,
         fallback_scope: fallback.scope,
-    })?;
-    sheet.after_text = false;
-    Ok(())
+    };
+    sheet.push_kid(boundary)
 }
 
 /// The path of these steps.

@@ -1,7 +1,6 @@
 //! The rendering of a piece.
 
 ghost use Rattle.std.specs.Prelude.{◌≡◌, ◌≢◌, ◌&&◌, ℕ, List, Some, IfOk, IfErr};
-ghost use Rattle.jsx_syntax.specs.Rules.{IsApp};
 ghost use Rattle.jsx_value.specs.Expansions.{IsUnfolded};
 ghost use Rattle.jsx_value.specs.SeenPlaces.{place_at, place_shape};
 ghost use Rattle.jsx_value.specs.Spots.{wait};
@@ -31,8 +30,7 @@ pub fn render_piece<'a>(
     plan: &Plan<'a>,
     work: Work<'a>,
 ) -> Result<Piece<'a>, PieceMemory<'a>>
-    requires app { IsApp plan.now.app.now }
-    requires good { IsGoodWork plan.now work }
+    requires { IsGoodWork plan.now work }
     ensures piece { IfOk result (IsPieceOf plan.now work.entry) }
     ensures memory { IfErr result (λ refused. refused.work ≡ work.entry) }
 {
@@ -56,8 +54,7 @@ pub(crate) enum Outcome<'a> {
 }
 
 fn outcome_of<'a>(alloc: Global, plan: &Plan<'a>, work: &Work<'a>) -> Result<Outcome<'a>, Stop>
-    requires app { IsApp plan.now.app.now }
-    requires good { IsGoodWork plan.now work.now }
+    requires { IsGoodWork plan.now work.now }
     ensures outcome { IfOk result (IsOutcome (page_under plan.now work.now.settled) work.now) }
     ensures stopped { IfErr result (IsStopOf (page_under plan.now work.now.settled) work.now) }
 {

@@ -1,5 +1,7 @@
 //! What is printed of a piece so far.
 
+ghost use Rattle.std.specs.Prelude.{◌≡◌, ◌++◌, ◌∷◌, [], false, OnOk};
+
 use crate::piece::Kid;
 use fizz_text::{OutOfMemory, Text};
 use sqlite_items::Items;
@@ -11,6 +13,18 @@ pub(crate) struct Sheet<'a> {
     pub(crate) out: Vec<u8>,
     pub(crate) kids: Items<Kid<'a>>,
     pub(crate) after_text: bool,
+}
+
+impl<'a> Sheet<'a> {
+    /// Cuts something out. What fills it is kept apart by itself, so that no text counts as printed last after it.
+    pub(crate) fn push_kid(&mut self, kid: Kid<'a>) -> Result<(), OutOfMemory>
+        ensures { OnOk result (self.new
+            ≡ record self.old { kids = self.old.kids ++ kid.entry ∷ []; after_text = false }) }
+    {
+        self.kids.push(kid)?;
+        self.after_text = false;
+        Ok(())
+    }
 }
 
 /// Why the printing of a piece ends early: with the first failure's digest, or without memory.

@@ -4,6 +4,7 @@ mod LayersLemmas
 mod AgreeLemmas
 mod GrowLemmas
 mod UnfoldLemmas
+mod SettlingLemmas
 mod WeightsLemmas
 mod AppsLemmas
 mod WeighingLemmas

@@ -9,5 +9,6 @@ pub mod SeenPlaces
 pub mod Layers
 pub mod Sizes
 pub mod Expansions
+pub mod Settling
 pub mod Weights
 pub mod Weighing

@@ -15,7 +15,7 @@ mod statements;
 mod val;
 mod weight;
 
-pub use expansion_laws::{laws_of_apps, laws_of_expansions};
+pub use expansion_laws::{laws_of_apps, laws_of_expansions, laws_of_settlements};
 pub use expression::eval;
 pub use place::shape_at;
 pub use scope::Scope;

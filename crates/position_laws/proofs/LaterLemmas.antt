@@ -11,7 +11,7 @@ module _ (known : List ℕ → Bool) where
     both : (a b : One) → x ≡ Some a → y ≡ Some b → LaterOne known a b → MetHere x y
     neither : x ≡ None → y ≡ None → MetHere x y
 
-  met_nth : (n : ℕ) (s t : Spots) → Later known s t → MetHere (nth s n) (nth t n)
+  pub met_nth : (n : ℕ) (s t : Spots) → Later known s t → MetHere (nth s n) (nth t n)
   met_nth n _ _ ends = neither refl refl
   met_nth zero _ _ (stays label kids other later kids' other' later' k o l) =
       both _ _ refl refl (stays_one label kids other kids' other' k o)
@@ -20,7 +20,7 @@ module _ (known : List ℕ → Bool) where
       both _ _ refl refl (opens_one resource label' kids other kids' other' k)
   met_nth (suc n) _ _ (opens resource label' kids other later kids' other' later' k l) = met_nth n later later' l
 
-  met_inside : (label : Label) (kids other kids' other' : Spots) (n : ℕ) → Later known kids kids' → Later known other other'
+  pub met_inside : (label : Label) (kids other kids' other' : Spots) (n : ℕ) → Later known kids kids' → Later known other other'
       → MetHere (inside label kids other n) (inside label kids' other' n)
   met_inside nothing kids other kids' other' n k o = neither refl refl
   met_inside (text t) kids other kids' other' n k o = neither refl refl

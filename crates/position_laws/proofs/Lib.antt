@@ -1,1 +1,10 @@
 pub mod LaterLemmas
+pub mod OnwardLemmas
+pub mod OwnersLemmas
+pub mod GapsLemmas
+pub mod GapListsLemmas
+pub mod ApartLemmas
+pub mod WordsLemmas
+pub mod CutsLemmas
+pub mod FormedLemmas
+pub mod PagesLemmas

@@ -1,7 +1,7 @@
 -- Positions, and the same positions where more was settled: all stays but what waited for a resource that has settled
 -- since.
 use Rattle.std.specs.Prelude.{◌≡◌, ℕ, Bool, true, List}
-use Rattle.jsx_value.specs.Spots.{Label, One, Spots, none, spot, wait}
+use Rattle.jsx_value.specs.Spots.{Label, One, Spots, none, settled, settled_label, spot, wait}
 
 -- `known` says which resources have settled since.
 pub data Later (known : List ℕ → Bool) : Spots → Spots → Type 0 where
@@ -19,3 +19,11 @@ pub data LaterOne (known : List ℕ → Bool) : One → One → Type 0 where
       → LaterOne known (record { label = label; kids = kids; other = other }) (record { label = label; kids = kids'; other = other' })
   opens_one : (resource : List ℕ) (label' : Label) (kids other kids' other' : Spots) → known resource ≡ true
       → LaterOne known (record { label = wait resource; kids = kids; other = other }) (record { label = label'; kids = kids'; other = other' })
+
+-- a position of the settled tree
+abbrev pub settled_one : One → One
+settled_one one = record {
+  label = settled_label one.label;
+  kids = settled one.kids;
+  other = settled one.other;
+}
