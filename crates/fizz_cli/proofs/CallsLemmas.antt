@@ -8,13 +8,13 @@ use Rattle.fizz_cli.specs.Calls.{IsCause, IsCutOff, IsDone, IsKept, IsRefusalSta
 use Rattle.fizz_cli.specs.Commands.{command_of}
 use Rattle.fizz_cli.specs.Ends.{EndsAs, SendsAll, Serves, WritesAll}
 use Rattle.fizz_cli.specs.Notes.{note_of, usage_note}
-use Rattle.fizz_cli.specs.Refusals.{status_of}
+use Rattle.fizz_cli.specs.Refusals.{plain_refusal, status_of}
 use Rattle.fizz_cli.specs.Reports.{AppendsPrefix, Change, FilesReport, HasFilesFault, HasSinkFault, SinkReport}
 use Rattle.fizz_cli.specs.Serving.{Accepts, Completes, IsPart, IsPrefixOf, Leaves, MayWrite, Refuses}
 use Rattle.fizz_cli.specs.Steps.{ReadsFiles, stop_of}
 use Rattle.fizz_cli.specs.Words.{HasWordsCause}
 use Rattle.fizz_cli.specs.declared.command.Command.{Command}
-use Rattle.fizz_cli.specs.declared.command.Command.TheVariants.{Render, Show}
+use Rattle.fizz_cli.specs.declared.command.Command.TheVariants.{Render, Show, Tree}
 use Rattle.fizz_cli.specs.declared.refusal.Refusal.{Refusal}
 use Rattle.fizz_cli.specs.declared.refusal.Refusal.TheVariants.{CannotRead, File, ShellFailed, ShellPostponed, CannotWrite, StateTooLong}
 use Rattle.fizz_cli.specs.declared.stop.OrMemory.{OrMemory}
@@ -52,14 +52,17 @@ still_told may_write None after at kept told = absurd (none_told at told)
 pub accepts_output : (at : Contents) (command : Command) (now : Contents) (written : List ℕ) → Completes at command now written → Accepts at command
 accepts_output at (Render app script options workers) now written is = (is.0, is.1)
 accepts_output at (Show file prefix) now written is = (written, is)
+accepts_output at (Tree app script prefix) now written is = (written, is)
 
 nothing_written : (at : Contents) (command : Command) → IsPart at command []
 nothing_written at (Render app script options workers) = inl refl
 nothing_written at (Show file prefix) = inl refl
+nothing_written at (Tree app script prefix) = inl refl
 
 leaves_all : (command : Command) (refusal : Refusal) (held : Option (List ℕ)) → Leaves command refusal held held
 leaves_all (Render app script options workers) refusal held = keeps_all held
 leaves_all (Show file prefix) refusal held = keeps_all held
+leaves_all (Tree app script prefix) refusal held = keeps_all held
 
 cut_at_once : (command : Command) (files : Change FilesReport) (out : Change SinkReport) → out.after ≡ out.before → IsCutOff command files out
 cut_at_once command files out same = λ at told.
@@ -107,6 +110,17 @@ writes {T} outputs command files out output result completes part r w =
 
 -- statuses
 
+status_of-plain : (refusal : Refusal) → status_of (plain_refusal refusal) ≡ status_of refusal
+status_of-plain (CannotRead name) = refl
+status_of-plain (File name fault) = refl
+status_of-plain (ShellFailed digest) = refl
+status_of-plain (ShellPostponed resource) = refl
+status_of-plain (CannotWrite name) = refl
+status_of-plain (StateTooLong size) = refl
+
+same_status : (a b : Refusal) → plain_refusal a ≡ plain_refusal b → status_of a ≡ status_of b
+same_status a b e = sym (status_of-plain a) ∙ (ap status_of e ∙ status_of-plain b)
+
 status_apart : (n : ℕ) → (n ≡ 0) ⊎ ((n ≡ 7) ⊎ (n ≡ 8)) → IsRefusalStatus n → ⊥
 status_apart n h r = by_cases r.0 h r.1
   where
@@ -121,7 +135,8 @@ status_apart n h r = by_cases r.0 h r.1
 -- what is known of a command's refusals
 pub record CommandLaws (command : Command) : Type 0 where
   pub accepted : (at : Contents) (refusal : Refusal) → Accepts at command → Refuses at command ⊥ refusal → ⊥
-  pub one : (at : Contents) (a b : Refusal) → Refuses at command ⊥ a → Refuses at command ⊥ b → a ≡ b
+  pub one : (at : Contents) (a b : Refusal) → Refuses at command ⊥ a → Refuses at command ⊥ b →
+      plain_refusal a ≡ plain_refusal b
 
 -- the command is done
 
@@ -233,7 +248,7 @@ call_told {T} command files out notes served refusal status laws is s sent =
       cut = λ h. absurd (refused_status (inr h) all.0);
       only = inr (inr (inr (refusal, all.0)));
       accepted = λ at told quiet silent memory a. absurd (laws.accepted at refusal a (at_rest ends.0 at told quiet));
-      called_for = λ at told quiet silent memory other r. all.0 ∙ ap status_of (laws.one at refusal other (at_rest ends.0 at told quiet) r);
+      called_for = λ at told quiet silent memory other r. all.0 ∙ same_status refusal other (laws.one at refusal other (at_rest ends.0 at told quiet) r);
     }
     by_result ends (inr (inl failed)) = record {
       others = s.others;

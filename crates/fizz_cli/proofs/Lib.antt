@@ -11,3 +11,5 @@ pub mod PageForests
 pub mod Pages
 pub mod Tags
 pub mod Trees
+mod ProgramsLemmas
+mod TreesLemmas

@@ -14,6 +14,7 @@ use Rattle.document_machine.specs.declared.fault.MachineFault.{MachineFault}
 use Rattle.document_machine.specs.declared.fault.MachineFault.TheVariants as fault
 use Rattle.fizz_cli.specs.AppFiles.{AcceptsApp, RefusesApp, RefusesAppBytes, most_app_bytes}
 use Rattle.fizz_cli.specs.PageFiles.{RefusesPage, RefusesPageBytes, ShowsFile, StaysPending, most_page_bytes}
+use Rattle.fizz_cli.specs.ProgramFiles.{RefusesProgramBytes, most_program_bytes}
 use Rattle.fizz_cli.specs.Rendering.{Means, RefusesRender}
 use Rattle.settle_script.specs.Scripts.{IsScript, script_of}
 use Rattle.settle_script.specs.declared.event.Event.{Event}
@@ -24,10 +25,10 @@ use Rattle.fizz_cli.specs.ScriptFiles.{AcceptsScript, RefusesLines, RefusesScrip
 use Rattle.fizz_cli.specs.Serving.{Accepts, Refuses}
 use Rattle.fizz_cli.specs.Source.{IsPageFile}
 use Rattle.fizz_cli.specs.declared.command.Command.{Command}
-use Rattle.fizz_cli.specs.declared.command.Command.TheVariants.{Render, Show}
+use Rattle.fizz_cli.specs.declared.command.Command.TheVariants.{Render, Show, Tree}
 use Rattle.fizz_cli.specs.declared.refusal.AppFault.{AppFault}
 use Rattle.fizz_cli.specs.declared.refusal.AppFault.TheVariants.{NotUtf8, Unbuilt}
-use Rattle.fizz_cli.specs.declared.refusal.FileFault.TheVariants.{App, Script, Page}
+use Rattle.fizz_cli.specs.declared.refusal.FileFault.TheVariants.{App, Program, Script, Page}
 use Rattle.fizz_cli.specs.declared.refusal.PageFault.{PageFault}
 use Rattle.fizz_cli.specs.declared.refusal.PageFault.TheVariants.{Html, UnknownFunction, NoSuchId, NotBoundary, StillPending}
 use Rattle.fizz_cli.specs.declared.refusal.Refusal.{Refusal}
@@ -38,7 +39,7 @@ use Rattle.fizz_cli.proofs.StepsLemmas.{file_excludes, one_file_refusal, refuses
 
 -- component files
 
-not_cut : (bytes : List ℕ) (valid : ℕ) → IsUtf8 bytes → IsValidUpTo bytes valid → ⊥
+pub not_cut : (bytes : List ℕ) (valid : ℕ) → IsUtf8 bytes → IsValidUpTo bytes valid → ⊥
 not_cut bytes valid utf8 cut =
     cut.longest (length bytes) cut.short (subst IsUtf8 (sym (take_all (length bytes) bytes (omega arith))) utf8)
 
@@ -51,7 +52,7 @@ pub app_excludes : (name : List ℕ) (file : Option (List ℕ)) (nodes : List Do
 app_excludes name file nodes refusal a r =
     file_excludes App RefusesAppBytes most_app_bytes name file a.bytes refusal a.is_file (λ f. app_sound a.bytes nodes f a.utf8 a.means) r
 
-same_valid : (bytes : List ℕ) (m n : ℕ) → IsValidUpTo bytes m → IsValidUpTo bytes n → m ≡ n
+pub same_valid : (bytes : List ℕ) (m n : ℕ) → IsValidUpTo bytes m → IsValidUpTo bytes n → m ≡ n
 same_valid bytes m n p q = by_order (cases_lt m n) (cases_lt n m)
   where
     by_order : (m < n) ⊎ (n ≤ m) → (n < m) ⊎ (m ≤ n) → m ≡ n
@@ -141,7 +142,7 @@ one_script_fault bytes a b p q = by_known (script_cause bytes a p) (script_cause
     by_known c d (inr utf8) more = told c d utf8
 
 -- a script has one list of lines
-one_lines : (file : Option (List ℕ)) (a b : List Event) → AcceptsScript file a → AcceptsScript file b → a ≡ b
+pub one_lines : (file : Option (List ℕ)) (a b : List Event) → AcceptsScript file a → AcceptsScript file b → a ≡ b
 one_lines file a b p q =
     let same : q.bytes ≡ p.bytes = same_contents file q.bytes p.bytes q.is_file.found p.is_file.found in
     same_results _ a b p.is_script.lines (ap (λ (bs : List ℕ). script_of (read bs)) (sym same) ∙ q.is_script.lines)
@@ -150,7 +151,7 @@ pub lines_exclude : (name : List ℕ) (file : Option (List ℕ)) (refusal : Refu
     AcceptsScript file lines → RefusesLines name lines refusal → ⊥
 lines_exclude name file refusal empty lines a r = r.0 (one_lines file lines [] a empty)
 
-one_script : (name : List ℕ) (file : Option (List ℕ)) (a b : Refusal) → RefusesScript ⊥ name file a → RefusesScript ⊥ name file b → a ≡ b
+pub one_script : (name : List ℕ) (file : Option (List ℕ)) (a b : Refusal) → RefusesScript ⊥ name file a → RefusesScript ⊥ name file b → a ≡ b
 one_script name file a b p q = one_file_refusal Script RefusesScriptBytes most_script_bytes name file a b one_script_fault p q
 
 -- page files
@@ -240,5 +241,10 @@ refuses_at_rest at (Render app script_name options workers) faulted refusal quie
 refuses_at_rest at (Render app script_name options workers) faulted refusal quiet (inr (n, a, inl r)) =
     inr (n, a, inl (refuses_quiet Script RefusesScriptBytes faulted most_script_bytes script_name (at script_name) refusal quiet r))
 refuses_at_rest at (Render app script_name options workers) faulted refusal quiet (inr (n, a, inr r)) = inr (n, a, inr r)
+refuses_at_rest at (Tree app script_name prefix) faulted refusal quiet (inl r) =
+    inl (refuses_quiet Program RefusesProgramBytes faulted most_program_bytes app (at app) refusal quiet r)
+refuses_at_rest at (Tree app script_name prefix) faulted refusal quiet (inr (n, a, inl r)) =
+    inr (n, a, inl (refuses_quiet Script RefusesScriptBytes faulted most_script_bytes script_name (at script_name) refusal quiet r))
+refuses_at_rest at (Tree app script_name prefix) faulted refusal quiet (inr (n, a, inr r)) = inr (n, a, inr r)
 refuses_at_rest at (Show file prefix) faulted refusal quiet r =
     refuses_quiet Page (RefusesPageBytes prefix) faulted most_page_bytes file (at file) refusal quiet r

@@ -10,11 +10,14 @@ pub mod Notes
 pub mod Reports
 pub mod Steps
 pub mod AppFiles
+pub mod ProgramFiles
+pub mod ProgramFaults
 pub mod ScriptFiles
 pub mod ScriptFaults
 pub mod PageFiles
 pub mod Feeding
 pub mod Rendering
+pub mod Trees
 pub mod Serving
 pub mod Calls
 pub mod Ends

@@ -3,15 +3,21 @@ use Rattle.std.specs.Prelude.{ℕ, ◌/◌, ◌%◌, List, [], ◌∷◌, ◌++�
 use Rattle.std.specs.List.{flat_map}
 use Rattle.std.specs.Fmt.{decimal}
 use Rattle.std.specs.Char.{digit_char}
+use Rattle.jsx_lex.specs.declared.fault.LexKind.{LexKind}
+use Rattle.jsx_lex.specs.declared.fault.LexKind.TheVariants as kind
+use Rattle.jsx_syntax.specs.declared.fault.Wanted.{Wanted}
+use Rattle.jsx_syntax.specs.declared.fault.Wanted.TheVariants as wanted
 use Rattle.fizz_cli.specs.declared.note.FieldValue.{FieldValue}
 use Rattle.fizz_cli.specs.declared.note.FieldValue.TheVariants.{Number, Words, Steps, Hash}
 use Rattle.fizz_cli.specs.declared.note.Field.{Field}
 use Rattle.fizz_cli.specs.declared.refusal.AppFault.{AppFault}
 use Rattle.fizz_cli.specs.declared.refusal.AppFault.TheVariants as app
 use Rattle.fizz_cli.specs.declared.refusal.FileFault.{FileFault}
-use Rattle.fizz_cli.specs.declared.refusal.FileFault.TheVariants.{TooLong, App, Script, Page}
+use Rattle.fizz_cli.specs.declared.refusal.FileFault.TheVariants.{TooLong, App, Program, Script, Page}
 use Rattle.fizz_cli.specs.declared.refusal.PageFault.{PageFault}
 use Rattle.fizz_cli.specs.declared.refusal.PageFault.TheVariants as page
+use Rattle.fizz_cli.specs.declared.refusal.ProgramFault.{ProgramFault}
+use Rattle.fizz_cli.specs.declared.refusal.ProgramFault.TheVariants as program
 use Rattle.fizz_cli.specs.declared.refusal.Refusal.{Refusal}
 use Rattle.fizz_cli.specs.declared.refusal.Refusal.TheVariants.{CannotRead, File, ShellFailed, ShellPostponed, CannotWrite, StateTooLong}
 use Rattle.fizz_cli.specs.declared.refusal.ScriptFault.{ScriptFault}
@@ -84,6 +90,44 @@ abbrev pub app_row : AppFault → Row
 app_row (app.NotUtf8 valid) = counted_by (codes "NotUtf8") (codes "valid") valid
 app_row app.Unbuilt = bare (codes "Unbuilt")
 
+-- a row with a place, and a word that says what is wrong there
+abbrev pub row_with : List ℕ → ℕ → List ℕ → List ℕ → Row
+row_with label at name word = record {
+  label = label;
+  fields = record { name = codes "at"; value = number at } ∷ record { name = name; value = words word } ∷ [];
+}
+
+abbrev pub kind_word : LexKind → List ℕ
+kind_word kind.Char = codes "Char"
+kind_word kind.Number = codes "Number"
+kind_word kind.Str = codes "Str"
+kind_word kind.Comment = codes "Comment"
+kind_word kind.Bare = codes "Bare"
+kind_word kind.Brace = codes "Brace"
+kind_word kind.End = codes "End"
+
+abbrev pub wanted_word : Wanted → List ℕ
+wanted_word wanted.Token = codes "Token"
+wanted_word wanted.Value = codes "Value"
+wanted_word wanted.CloseName = codes "CloseName"
+wanted_word wanted.NoChildren = codes "NoChildren"
+wanted_word wanted.Shallower = codes "Shallower"
+
+abbrev pub program_row : ProgramFault → Row
+program_row (program.NotUtf8 valid) = counted_by (codes "NotUtf8") (codes "valid") valid
+program_row (program.LexFault at kind) = row_with (codes "LexFault") at (codes "kind") (kind_word kind)
+program_row (program.SyntaxFault at wanted) = row_with (codes "SyntaxFault") at (codes "wanted") (wanted_word wanted)
+program_row (program.TooManyComponents count) = counted_by (codes "TooManyComponents") (codes "count") count
+program_row (program.UnknownName at) = row_at (codes "UnknownName") at
+program_row (program.UnknownElement at) = row_at (codes "UnknownElement") at
+program_row (program.UnknownAttribute at) = row_at (codes "UnknownAttribute") at
+program_row (program.TwiceDefined at) = row_at (codes "TwiceDefined") at
+program_row (program.UsedBeforeDefined at) = row_at (codes "UsedBeforeDefined") at
+program_row (program.FallbackNotPlain at) = row_at (codes "FallbackNotPlain") at
+program_row program.NoApp = bare (codes "NoApp")
+program_row (program.TooDeep depth) = counted_by (codes "TooDeep") (codes "depth") depth
+program_row (program.TooLarge limit) = counted_by (codes "TooLarge") (codes "limit") limit
+
 abbrev pub script_row : ScriptFault → Row
 script_row script.NotJson = bare (codes "NotJson")
 script_row (script.TooManyEvents count) = counted_by (codes "TooManyEvents") (codes "count") count
@@ -112,6 +156,7 @@ page_row (page.StillPending count) = counted_by (codes "StillPending") (codes "c
 abbrev pub row_of : FileFault → Row
 row_of (TooLong most) = counted_by (codes "TooLong") (codes "most") most
 row_of (App fault) = app_row fault
+row_of (Program fault) = program_row fault
 row_of (Script fault) = script_row fault
 row_of (Page fault) = page_row fault
 

@@ -6,24 +6,28 @@ use Rattle.dom_forest.specs.declared.document.DocNode.{DocNode}
 use Rattle.fizz_outside.specs.FileContents.{Contents}
 use Rattle.fizz_cli.specs.PageFiles.{RefusesPage, ShowsFile}
 use Rattle.fizz_cli.specs.Rendering.{Means, RefusesRender, RendersSettled}
+use Rattle.fizz_cli.specs.Trees.{RefusesTree, ShowsTree}
 use Rattle.fizz_cli.specs.declared.command.Command.{Command}
-use Rattle.fizz_cli.specs.declared.command.Command.TheVariants.{Render, Show}
+use Rattle.fizz_cli.specs.declared.command.Command.TheVariants.{Render, Show, Tree}
 use Rattle.fizz_cli.specs.declared.refusal.Refusal.{Refusal}
 
 -- Why the command is refused. `faulted` stands for "the files counted a fault".
 abbrev pub Refuses : Contents → Command → Type 0 → Refusal → Type 0
 Refuses at (Render app script options workers) faulted refusal = RefusesRender at app script faulted refusal
 Refuses at (Show file prefix) faulted refusal = RefusesPage prefix faulted file (at file) refusal
+Refuses at (Tree app script prefix) faulted refusal = RefusesTree at app script prefix faulted refusal
 
--- The files are accepted: they mean a document, or the page file has a settled one.
+-- The files are accepted: they mean a document, the page file has a settled one, or the page has a final one.
 abbrev pub Accepts : Contents → Command → Type 0
 Accepts at (Render app script options workers) = (nodes : List DocNode) × Means at app script nodes
 Accepts at (Show file prefix) = (out : List ℕ) × ShowsFile prefix (at file) out
+Accepts at (Tree app script prefix) = (out : List ℕ) × ShowsTree at app script prefix out
 
 -- What was appended to the output, and what the files hold then, when the command is done.
 abbrev pub Completes : Contents → Command → Contents → List ℕ → Type 0
 Completes at (Render app script options workers) now written = RendersSettled at app script written
 Completes at (Show file prefix) now written = ShowsFile prefix (at file) written
+Completes at (Tree app script prefix) now written = ShowsTree at app script prefix written
 
 -- nothing, or a prefix of an output
 abbrev pub IsPrefixOf : (List ℕ → Type 0) → List ℕ → Type 0
@@ -33,13 +37,16 @@ IsPrefixOf outputs written = (written ≡ []) ⊎ ((whole : List ℕ) × (n : �
 abbrev pub IsPart : Contents → Command → List ℕ → Type 0
 IsPart at (Render app script options workers) written = IsPrefixOf (RendersSettled at app script) written
 IsPart at (Show file prefix) written = IsPrefixOf (ShowsFile prefix (at file)) written
+IsPart at (Tree app script prefix) written = IsPrefixOf (ShowsTree at app script prefix) written
 
 -- What stays on the output with a refusal. The commands that are built leave nothing there.
 abbrev pub Leaves : Command → Refusal → Option (List ℕ) → Option (List ℕ) → Type 0
 Leaves (Render app script options workers) refusal old new = Keeps old new
 Leaves (Show file prefix) refusal old new = Keeps old new
+Leaves (Tree app script prefix) refusal old new = Keeps old new
 
 -- The files that the command may write.
 abbrev pub MayWrite : Command → List ℕ → Type 0
 MayWrite (Render app script options workers) name = ⊥
 MayWrite (Show file prefix) name = ⊥
+MayWrite (Tree app script prefix) name = ⊥

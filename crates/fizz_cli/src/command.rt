@@ -14,6 +14,13 @@ pub enum Command {
         options: Options,
         workers: u32,
     },
+    /// Prints the final document of a component file under a settling script: what the page shows once nothing settles
+    /// any more. The prefix of the ids of a page that is rendered is kept free; it has at most 64 bytes.
+    Tree {
+        app: Text,
+        script: Text,
+        prefix: Text,
+    },
     /// Shows the settled document of a page file, whose instructions name ids that begin with the prefix. It has at
     /// most 64 bytes.
     Show {

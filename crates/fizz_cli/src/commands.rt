@@ -2,6 +2,7 @@
 
 mod render;
 mod show;
+mod tree;
 
 ghost use Rattle.std.specs.Prelude.{◌≡◌};
 ghost use Rattle.fizz_cli.specs.Ends.{Serves};
@@ -26,5 +27,10 @@ pub(crate) fn serve<F: Files, S: Sink>(
     match command {
         Command::Render { app, script, .. } => render::serve(alloc, app, script, files, out),
         Command::Show { file, prefix } => show::serve(alloc, file, prefix, files, out),
+        Command::Tree {
+            app,
+            script,
+            prefix,
+        } => tree::serve(alloc, app, script, prefix, files, out),
     }
 }

@@ -8,13 +8,18 @@ ghost use Rattle.settle_script.specs.declared.event.Event.{Event};
 ghost use Rattle.fizz_cli.specs.AppFiles.{AcceptsApp, RefusesApp};
 ghost use Rattle.fizz_cli.specs.Documents.{IsDocument};
 ghost use Rattle.fizz_cli.specs.PageFiles.{RefusesPage, ShowsFile};
+ghost use Rattle.fizz_cli.specs.Refusals.{plain_refusal};
 ghost use Rattle.fizz_cli.specs.ScriptFiles.{AcceptsScript, RefusesScript};
+ghost use Rattle.fizz_cli.specs.Trees.{RefusesTree, ShowsTree};
 ghost use Rattle.fizz_cli.specs.Serving.{Accepts, Refuses};
 ghost use Rattle.fizz_cli.specs.Source.{IsPageFile};
 ghost use Rattle.fizz_cli.specs.declared.refusal.Refusal.{Refusal as Cause};
 
 use crate::command::Command;
 use document_machine::laws_of_documents;
+use jsx_check::one_check_fault;
+use jsx_lex::{one_fault, one_token_list, tokens_or_fault};
+use jsx_syntax::one_file;
 
 /// A law of literal pages: a file means one document at most.
 pub fn one_page()
@@ -42,16 +47,32 @@ pub fn laws_of_steps()
 }
 
 /// Laws of commands, by what files hold: an accepted command is not refused, and a command is refused for one thing at
-/// most, so there is one note for it.
+/// most, so there is one note for it, but for what is wanted in the place of a token of a component file.
 pub fn laws_of_refusals(command: &Command)
     ensures accepted { (at : Contents) (cause : Cause) → Accepts at command.now → Refuses at command.now ⊥ cause → ⊥ }
     ensures one { (at : Contents) (a b : Cause) →
-        Refuses at command.now ⊥ a → Refuses at command.now ⊥ b → a ≡ b }
+        Refuses at command.now ⊥ a → Refuses at command.now ⊥ b → plain_refusal a ≡ plain_refusal b }
 {
     match command {
         Command::Render { .. } => {}
         Command::Show { prefix, .. } => laws_of_pages(prefix.as_str()),
+        Command::Tree { .. } => laws_of_trees(),
     }
+}
+
+/// The same of `tree`.
+fn laws_of_trees()
+    ensures accepted { (at : Contents) (app script prefix out : List ℕ) (cause : Cause) →
+        ShowsTree at app script prefix out → RefusesTree at app script prefix ⊥ cause → ⊥ }
+    ensures one { (at : Contents) (app script prefix : List ℕ) (a b : Cause) →
+        RefusesTree at app script prefix ⊥ a → RefusesTree at app script prefix ⊥ b →
+        plain_refusal a ≡ plain_refusal b }
+{
+    one_token_list();
+    one_fault();
+    tokens_or_fault();
+    one_file();
+    one_check_fault();
 }
 
 /// The same of a page file.

@@ -16,7 +16,7 @@ mod words;
 pub use command::{Command, Options};
 pub use laws::{laws_of_refusals, laws_of_steps, one_document, one_page};
 pub use page::page_html;
-pub use refusal::{AppFault, FileFault, PageFault, Refusal, ScriptFault};
+pub use refusal::{AppFault, FileFault, PageFault, ProgramFault, Refusal, ScriptFault};
 pub use top::{fizz, fizz_inline};
 pub use words::{WordsFault, read_words};
 

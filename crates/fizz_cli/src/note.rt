@@ -4,9 +4,11 @@ ghost use Rattle.std.specs.Prelude.{◌≡◌, ◌++◌, ◌<◌, IfOk, OnOk, co
 ghost use Rattle.std.specs.List.{flat_map};
 ghost use Rattle.std.specs.Fmt.{decimal};
 ghost use Rattle.std.specs.Char.{digit_char};
-ghost use Rattle.fizz_cli.specs.Notes.{after_dot, app_row, counted_by, steps_text, entry_of, entry_text, line_of, note_of, number, page_row, row_at, row_of, row_text, script_row, two_digits, value_of, value_text, words};
+ghost use Rattle.fizz_cli.specs.Notes.{after_dot, app_row, counted_by, steps_text, entry_of, entry_text, kind_word, line_of, note_of, number, page_row, program_row, row_at, row_of, row_text, row_with, wanted_word, script_row, two_digits, value_of, value_text, words};
 
-use crate::refusal::{AppFault, FileFault, PageFault, Refusal, ScriptFault};
+use crate::refusal::{AppFault, FileFault, PageFault, ProgramFault, Refusal, ScriptFault};
+use jsx_lex::LexKind;
+use jsx_syntax::Wanted;
 use std::alloc::{AllocError, Global};
 
 /// What a field of a note says: a number, a text as it is, the steps of a path, or the bytes of a hash.
@@ -81,6 +83,7 @@ fn push_fault(alloc: Global, note: &mut Vec<u8>, fault: &FileFault) -> Result<()
             push_row(alloc, note, "TooLong", &[count_field("most", *most as u64)])
         }
         FileFault::App(fault) => push_app_fault(alloc, note, fault),
+        FileFault::Program(fault) => push_program_fault(alloc, note, fault),
         FileFault::Script(fault) => push_script_fault(alloc, note, fault),
         FileFault::Page(fault) => push_page_fault(alloc, note, fault),
     }
@@ -99,6 +102,92 @@ fn push_app_fault(alloc: Global, note: &mut Vec<u8>, fault: &AppFault) -> Result
             )
         }
         AppFault::Unbuilt => push_row(alloc, note, "Unbuilt", &[]),
+    }
+}
+
+fn push_program_fault(
+    alloc: Global,
+    note: &mut Vec<u8>,
+    fault: &ProgramFault,
+) -> Result<(), AllocError>
+    ensures { OnOk result (note.new.items ≡ note.old.items ++ row_text (program_row fault.now)) }
+{
+    match fault {
+        ProgramFault::NotUtf8 { valid } => push_count(
+            alloc,
+            note,
+            "NotUtf8",
+            "valid",
+            *valid as u64,
+        ),
+        ProgramFault::LexFault { at, kind } => {
+            push_kind(alloc, note, "LexFault", *at, "kind", kind_word(*kind))
+        }
+        ProgramFault::SyntaxFault { at, wanted } => {
+            push_kind(
+                alloc,
+                note,
+                "SyntaxFault",
+                *at,
+                "wanted",
+                wanted_word(*wanted),
+            )
+        }
+        ProgramFault::TooManyComponents { count } => {
+            push_count(alloc, note, "TooManyComponents", "count", *count as u64)
+        }
+        ProgramFault::UnknownName { at } => push_placed(alloc, note, "UnknownName", *at),
+        ProgramFault::UnknownElement { at } => push_placed(alloc, note, "UnknownElement", *at),
+        ProgramFault::UnknownAttribute { at } => push_placed(alloc, note, "UnknownAttribute", *at),
+        ProgramFault::TwiceDefined { at } => push_placed(alloc, note, "TwiceDefined", *at),
+        ProgramFault::UsedBeforeDefined { at } => push_placed(
+            alloc,
+            note,
+            "UsedBeforeDefined",
+            *at,
+        ),
+        ProgramFault::FallbackNotPlain { at } => push_placed(alloc, note, "FallbackNotPlain", *at),
+        ProgramFault::NoApp => push_row(alloc, note, "NoApp", &[]),
+        ProgramFault::TooDeep { depth } => push_count(
+            alloc,
+            note,
+            "TooDeep",
+            "depth",
+            *depth as u64,
+        ),
+        ProgramFault::TooLarge { limit } => push_count(
+            alloc,
+            note,
+            "TooLarge",
+            "limit",
+            *limit as u64,
+        ),
+    }
+}
+
+fn kind_word(kind: LexKind) -> &'static str
+    ensures { result.now ≡ kind_word kind }
+{
+    match kind {
+        LexKind::Char => "Char",
+        LexKind::Number => "Number",
+        LexKind::Str => "Str",
+        LexKind::Comment => "Comment",
+        LexKind::Bare => "Bare",
+        LexKind::Brace => "Brace",
+        LexKind::End => "End",
+    }
+}
+
+fn wanted_word(wanted: Wanted) -> &'static str
+    ensures { result.now ≡ wanted_word wanted }
+{
+    match wanted {
+        Wanted::Token => "Token",
+        Wanted::Value => "Value",
+        Wanted::CloseName => "CloseName",
+        Wanted::NoChildren => "NoChildren",
+        Wanted::Shallower => "Shallower",
     }
 }
 
@@ -164,6 +253,39 @@ fn push_placed(alloc: Global, note: &mut Vec<u8>, label: &str, at: usize) -> Res
     ensures { OnOk result (note.new.items ≡ note.old.items ++ row_text (row_at label.now at)) }
 {
     push_row(alloc, note, label, &[count_field("at", at as u64)])
+}
+
+/// A label with a number.
+fn push_count(
+    alloc: Global,
+    note: &mut Vec<u8>,
+    label: &str,
+    name: &'static str,
+    count: u64,
+) -> Result<(), AllocError>
+    ensures { OnOk result (note.new.items
+        ≡ note.old.items ++ row_text (counted_by label.now name.now count)) }
+{
+    push_row(alloc, note, label, &[count_field(name, count)])
+}
+
+/// A label with a place, and with a word that says what is wrong there.
+fn push_kind(
+    alloc: Global,
+    note: &mut Vec<u8>,
+    label: &str,
+    at: usize,
+    name: &'static str,
+    word: &'static str,
+) -> Result<(), AllocError>
+    ensures { OnOk result (note.new.items
+        ≡ note.old.items ++ row_text (row_with label.now at name.now word.now)) }
+{
+    let fields = [
+        count_field("at", at as u64),
+        words_field(name, word.as_bytes()),
+    ];
+    push_row(alloc, note, label, &fields)
 }
 
 /// A label with the number of a line.

@@ -4,6 +4,8 @@ ghost use Rattle.std.specs.Prelude.{◌≡◌};
 ghost use Rattle.fizz_cli.specs.Refusals.{status_of};
 
 use fizz_text::Text;
+use jsx_lex::LexKind;
+use jsx_syntax::Wanted;
 
 /// Why a command is refused. Each variant has one status.
 #[derive(Debug, Drop)]
@@ -28,6 +30,7 @@ pub enum FileFault {
     /// There are more bytes than these.
     TooLong { most: usize },
     App(AppFault),
+    Program(ProgramFault),
     Script(ScriptFault),
     Page(PageFault),
 }
@@ -39,6 +42,37 @@ pub enum AppFault {
     NotUtf8 { valid: usize },
     /// They have a form that isn't served.
     Unbuilt,
+}
+
+/// What the bytes of a component file are refused for. `at` is a place in them.
+#[derive(Debug, Drop)]
+pub enum ProgramFault {
+    /// They aren't UTF-8. `valid` is the length of their longest prefix that is.
+    NotUtf8 { valid: usize },
+    /// No token, space or comment stands here.
+    LexFault { at: usize, kind: LexKind },
+    /// No file has this token after those before it.
+    SyntaxFault { at: usize, wanted: Wanted },
+    /// There are more than 1,000 components: so many.
+    TooManyComponents { count: u32 },
+    /// A name that is no property, no earlier constant and no variable of a map.
+    UnknownName { at: usize },
+    /// An element that is neither HTML's nor a component's.
+    UnknownElement { at: usize },
+    /// An attribute that its element does not know.
+    UnknownAttribute { at: usize },
+    /// A name that is taken.
+    TwiceDefined { at: usize },
+    /// A component that is used before it is defined.
+    UsedBeforeDefined { at: usize },
+    /// A component or a boundary in a fallback.
+    FallbackNotPlain { at: usize },
+    /// There is no component `App` without properties.
+    NoApp,
+    /// What `App` returns is deeper than 256: so deep.
+    TooDeep { depth: u32 },
+    /// With its script, the page weighs more than this.
+    TooLarge { limit: u32 },
 }
 
 /// What the bytes of a settling script are refused for. `index` is the number of a line, from 0.

@@ -1,3 +1,4 @@
 mod calls;
 mod pages;
 mod shows;
+mod trees;

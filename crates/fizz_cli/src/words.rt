@@ -1,5 +1,5 @@
 ghost use Rattle.std.specs.Prelude.{◌≡◌, ◌≢◌, Some, None, IfOk, map, Err};
-ghost use Rattle.fizz_cli.specs.Commands.{command_of, render_of, show_of};
+ghost use Rattle.fizz_cli.specs.Commands.{command_of, page_command_of, render_of, show_of};
 ghost use Rattle.fizz_cli.specs.Notes.{usage_note};
 ghost use Rattle.fizz_cli.specs.declared.words.WordsFault.TheVariants.{OutOfMemory as Memory};
 ghost use Rattle.fizz_cli.specs.Words.{HasWordsCause, IsMeant};
@@ -25,14 +25,14 @@ impl From<OutOfMemory> for WordsFault {
 }
 
 /// The command that the words after the program's name mean: `render` and the names of a component file and of a
-/// script, or `show` and the name of a page file. All else is `Usage`.
+/// script, `tree` and the same names, or `show` and the name of a page file. All else is `Usage`.
 pub fn read_words(alloc: Global, words: &[Text]) -> Result<Command, WordsFault>
     ensures meant { IfOk result (λ command. command_of words.now ≡ Some command) }
     ensures refused { HasWordsCause words.now result }
 {
     match words {
         [word, file] => read_show(alloc, word, file),
-        [word, app, script] => read_render(alloc, word, app, script),
+        [word, app, script] => read_page_command(alloc, word, app, script),
         _ => Err(usage()),
     }
 }
@@ -46,6 +46,26 @@ fn read_show(alloc: Global, word: &Text, file: &Text) -> Result<Command, WordsFa
     let file = file.copy(alloc)?;
     Ok(Command::Show {
         file,
+        prefix: Text::fixed(""),
+    })
+}
+
+fn read_page_command(
+    alloc: Global,
+    word: &Text,
+    app: &Text,
+    script: &Text,
+) -> Result<Command, WordsFault>
+    ensures { IsMeant (page_command_of word.now app.now script.now) result }
+{
+    if word.as_bytes() != b"tree".as_slice() {
+        return read_render(alloc, word, app, script);
+    }
+    let app = app.copy(alloc)?;
+    let script = script.copy(alloc)?;
+    Ok(Command::Tree {
+        app,
+        script,
         prefix: Text::fixed(""),
     })
 }

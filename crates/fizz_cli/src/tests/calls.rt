@@ -15,7 +15,7 @@ const HTML: &str = "<div class=\"a\">Hi</div>";
 /// Which calls fail: of the files, of the output and of the notes.
 type Fails = [&'static [u32]; 3];
 
-const NEVER: Fails = [&[], &[], &[]];
+pub(super) const NEVER: Fails = [&[], &[], &[]];
 
 /// Words, with the calls that fail; and the status, the output and the note over the files `a.jsx` and `s.json`.
 const WORDS: [(&[&str], Fails, u8, &str, &str); 15] = [
@@ -127,7 +127,11 @@ pub(super) fn run_fizz<R: Threads + Wait + Sync>(
 }
 
 /// The component file `a.jsx` and the script `s.json`.
-fn pair(alloc: Global, app: Vec<u8>, script: Vec<u8>) -> Result<Vec<(Text, Vec<u8>)>, AllocError> {
+pub(super) fn pair(
+    alloc: Global,
+    app: Vec<u8>,
+    script: Vec<u8>,
+) -> Result<Vec<(Text, Vec<u8>)>, AllocError> {
     let mut entries = Vec::new(alloc);
     entries.push((Text::fixed("a.jsx"), app))?;
     entries.push((Text::fixed("s.json"), script))?;
