@@ -1,8 +1,10 @@
 #!/bin/sh
 # Prints how long tasks take to be made, woken and let go, in microseconds: as many resources and owners as
-# tasks, at 10,000 and 100,000 tasks. It builds a throw-away program in a temporary folder, over copies of the crates.
+# tasks, at 10,000 and 100,000 tasks. It builds a throw-away program in a temporary folder, over copies of the
+# crates, and doesn't prove it: that takes longer than all the rest.
 set -eu
 . "$(dirname "$0")/frame.sh"
+step=try
 time_over task_bench fizz_text id_lists fizz_task <<'RT'
 #![tactic(auto)]
 
