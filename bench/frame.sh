@@ -2,7 +2,7 @@
 root=$(cd "$(dirname "$0")/.." && pwd)
 
 # time_over PROGRAM CRATE..: in a temporary folder, over copies of the crates with their lines of crates.txt, builds
-# and runs the program whose text is the standard input. The program uses these crates.
+# and runs the program whose text is the standard input. The program uses these crates. With step=try it isn't proved.
 time_over() {
     program=$1
     shift
@@ -13,8 +13,8 @@ time_over() {
         cp -r "$root/crates/$crate" "$work/crates/$crate"
         grep "^$crate[ :]" "$root/crates.txt"
     done > "$work/crates.txt"
-    printf '%s: %s\n' "$program" "$*" >> "$work/crates.txt"
+    printf "%s: %s\n" "$program" "$*" >> "$work/crates.txt"
     cat > "$work/crates/$program/src/main.rt"
     cd "$work/crates/$program"
-    rt run
+    rt "${step:-run}"
 }

@@ -70,9 +70,11 @@ pub(crate) fn grow_owners<W: Drop>(columns: &Columns<W>, by_owner: &mut IdLists,
     requires some { 1 < length by_owner.old.lists + more }
     requires ids { by_owner.old.ids ≡ length columns.now.states }
     requires spare { columns.now.spare ≤ by_owner.old.spare_ids }
-    requires guide { IsGuide (length columns.now.states) (owner_places columns.now (length by_owner.old.lists)) by_owner.old.lists }
+    requires guide { IsGuide (length columns.now.states)
+        (owner_places columns.now (length by_owner.old.lists)) by_owner.old.lists }
     ensures places { HasPlaces (length columns.now.states) columns.now.spare by_owner.new }
-    ensures guide { IsGuide (length columns.now.states) (owner_places columns.now (length by_owner.new.lists)) by_owner.new.lists }
+    ensures guide { IsGuide (length columns.now.states)
+        (owner_places columns.now (length by_owner.new.lists)) by_owner.new.lists }
 {
     if more > 0 {
         add_lists(by_owner, more);
@@ -90,9 +92,11 @@ pub(crate) fn grow_names<W: Drop>(columns: &Columns<W>, by_name: &mut IdLists, m
     requires some { 1 < length by_name.old.lists + more }
     requires ids { by_name.old.ids ≡ length columns.now.states }
     requires spare { columns.now.spare ≤ by_name.old.spare_ids }
-    requires guide { IsGuide (length columns.now.states) (name_places columns.now (length by_name.old.lists)) by_name.old.lists }
+    requires guide { IsGuide (length columns.now.states)
+        (name_places columns.now (length by_name.old.lists)) by_name.old.lists }
     ensures places { HasPlaces (length columns.now.states) columns.now.spare by_name.new }
-    ensures guide { IsGuide (length columns.now.states) (name_places columns.now (length by_name.new.lists)) by_name.new.lists }
+    ensures guide { IsGuide (length columns.now.states)
+        (name_places columns.now (length by_name.new.lists)) by_name.new.lists }
 {
     if more > 0 {
         add_lists(by_name, more);
@@ -113,9 +117,14 @@ pub(crate) fn place<W: Drop>(
     requires owners { HasPlaces (length columns.now.states) columns.now.spare by_owner.old }
     requires names { HasPlaces (length columns.now.states) columns.now.spare by_name.old }
     requires made { task < length columns.now.states }
-    ensures owners { by_owner.new ≡ record by_owner.old { lists = moved (owner_places columns.now (length by_owner.old.lists) task) task by_owner.old.lists } }
-    ensures names { by_name.new ≡ record by_name.old { lists = moved (name_places columns.now (length by_name.old.lists) task) task by_name.old.lists } }
-    ensures indexed { (old : Board W) → DiffersAt task old columns.now → IsIndexed old by_owner.old by_name.old → IsIndexed columns.now by_owner.new by_name.new }
+    ensures owners { by_owner.new ≡ record by_owner.old {
+      lists = moved (owner_places columns.now (length by_owner.old.lists) task) task by_owner.old.lists;
+    } }
+    ensures names { by_name.new ≡ record by_name.old {
+      lists = moved (name_places columns.now (length by_name.old.lists) task) task by_name.old.lists;
+    } }
+    ensures indexed { (old : Board W) → DiffersAt task old columns.now
+        → IsIndexed old by_owner.old by_name.old → IsIndexed columns.now by_owner.new by_name.new }
     ensures added { (old : Board W) → task ≡ length old.states → IsAdded old columns.now
         → IsGuide (length old.states) (owner_places old (length by_owner.old.lists)) by_owner.old.lists
         → IsGuide (length old.states) (name_places old (length by_name.old.lists)) by_name.old.lists
@@ -178,7 +187,8 @@ fn find_waiting<W: Drop>(
     requires empty { found.old.items ≡ [] }
     requires lists { AreLists by_name.now }
     requires room { by_name.now.ids ≤ vec_capacity found.old }
-    ensures found { found.new.items ≡ filter (λ n. waits_for name.now (state_at columns.now.states n)) (list_at by_name.now.lists list) }
+    ensures found { found.new.items
+        ≡ filter (λ n. waits_for name.now (state_at columns.now.states n)) (list_at by_name.now.lists list) }
     ensures room { vec_capacity found.new ≡ vec_capacity found.old }
 {
     let mut next = by_name.first(list);
@@ -196,7 +206,8 @@ pub(crate) fn find_all<W: Drop>(
     name: &Text,
 )
     requires places { HasPlaces (length columns.now.states) columns.now.spare by_name.now }
-    requires guide { IsGuide (length columns.now.states) (name_places columns.now (length by_name.now.lists)) by_name.now.lists }
+    requires guide { IsGuide (length columns.now.states)
+        (name_places columns.now (length by_name.now.lists)) by_name.now.lists }
     requires some { 0 < length columns.now.states }
     requires room { length columns.now.states ≤ vec_capacity found.old }
     ensures found { found.new.items ≡ waiters name.now columns.now.states }
