@@ -1,5 +1,5 @@
 -- Bytes run, or have a fault.
-use Rattle.std.proofs.Common.{◌≡◌, ◌≢◌, ◌⊎◌, inl, inr, ℕ, ◌+◌, ◌<◌, ◌≤◌, Bool, true, false, Option, Some, None, Ok, Err, if◌then◌else◌, List, [], ◌∷◌, ◌++◌, length, take, drop, refl, sym, ap, ◌∙◌, subst, arith, append_assoc}
+use Rattle.std.proofs.Common.{◌≡◌, ◌≢◌, ◌⊎◌, inl, inr, ℕ, ◌+◌, Bool, true, false, Option, Some, None, Ok, Err, if◌then◌else◌, List, [], ◌∷◌, ◌++◌, length, drop, refl, sym, ap, ◌∙◌, subst, append_assoc}
 use Rattle.std.specs.Str.{bytes_eq}
 use Rattle.std.proofs.lemmas.Bool.{cases_Bool, cases_lt, true≢false}
 use Rattle.std.proofs.lemmas.List.{take-append-drop}
@@ -13,19 +13,18 @@ use Rattle.fizz_instructions.specs.Reading.{HasInstruction, IsBodyOf, IsNoBody, 
 use Rattle.fizz_instructions.specs.Sending.{has}
 use Rattle.fizz_instructions.specs.declared.instruction.Instruction.{Instruction}
 use Rattle.fizz_instructions.specs.declared.instruction.Instruction.TheVariants as instruction
-use Rattle.html_read.specs.Faults.{HasFault, HasSplit, Splits}
+use Rattle.html_read.specs.Faults.{HasSplit, Splits}
 use Rattle.html_read.specs.Rests.{IsFaulty, IsWholeText}
 use Rattle.html_read.specs.Tokens.{AreTokens, AreTokensFrom, is_text, spelling, spellings}
 use Rattle.html_read.specs.declared.token.Token.{Token}
 use Rattle.html_read.specs.declared.token.Token.TheVariants as tok
 use Rattle.document_machine.specs.declared.building.OpenElement.{OpenElement}
-use Rattle.document_machine.specs.declared.edits.EditFault.{EditFault}
 use Rattle.document_machine.specs.declared.edits.EditFault.TheVariants.{NoSuchId, NotBoundary, OutOfMemory}
 use Rattle.document_machine.specs.declared.fault.MachineFault.{MachineFault}
 use Rattle.document_machine.specs.declared.fault.MachineFault.TheVariants as fault
 use Rattle.document_machine.specs.Documents.{Step, Steps, ends, marks, most_open, runs, says, stands, starts}
 use Rattle.document_machine.specs.Edits.{Edited, client_render_at, client_render_from, closed_with, complete_from, fill_from, fill_with, marker_of, reveal, reveal_at}
-use Rattle.document_machine.specs.Faults.{HasMachineFault, HasSomeFault, Refuses, StopsAtByte, StopsAtToken, calls_unknown, closes_another, closes_nothing, finds_no_boundary, misses, opens_too_many, says_nothing}
+use Rattle.document_machine.specs.Faults.{HasSomeFault, Refuses, StopsAtToken, calls_unknown, closes_another, closes_nothing, finds_no_boundary, misses, opens_too_many, says_nothing}
 use Rattle.document_machine.specs.Knowing.{RunsSomewhere}
 use Rattle.document_machine.specs.Running.{PageState, edit_of, ids_of, with_open}
 use Rattle.document_machine.specs.Taking.{StopsIn}

@@ -1,15 +1,14 @@
 -- Whether a body is some instruction's: numbers and digests have bounds, so that all of them can be tried.
-use Rattle.std.proofs.Common.{◌≡◌, ◌≢◌, ℕ, zero, suc, ◌+◌, ◌^◌, ◌<◌, ◌≤◌, ◌⊎◌, inl, inr, Bool, true, false, ◌&&◌, if◌then◌else◌, List, [], ◌∷◌, ◌++◌, Option, Some, None, length, codes, refl, sym, ◌∙◌, ap, subst, arith, length-append}
+use Rattle.std.proofs.Common.{◌≡◌, ◌≢◌, ℕ, zero, suc, ◌^◌, ◌<◌, ◌≤◌, ◌⊎◌, inl, inr, Bool, true, false, if◌then◌else◌, List, [], ◌∷◌, ◌++◌, Option, Some, None, length, codes, refl, sym, ◌∙◌, ap, subst, arith, length-append}
 use Rattle.std.specs.Char.{IsScalar, encode_utf8}
 use Rattle.std.specs.List.{flat_map}
-use Rattle.std.specs.Str.{IsUtf8, chars, encode_utf8_all, is_utf8}
+use Rattle.std.specs.Str.{chars, encode_utf8_all, is_utf8}
 use Rattle.std.proofs.Math.Utf8.{scalar, scalar_cases, scalars}
 use Rattle.std.proofs.lemmas.Bool.{cases_Bool, cases_eq, cases_lt, true≢false}
-use Rattle.std.proofs.lemmas.List.{nil_from_length}
 use Rattle.std.proofs.lemmas.Str.{IsUtf8-from_is_utf8, is_utf8-from_IsUtf8, chars-nil, encodes-chars, scalars-chars, len_utf8_bounds, length-encode}
 use Rattle.html_names.proofs.EscapedPrefixLemmas.{and_both}
 use Rattle.html_names.specs.JsStrings.{char_spelling, coded_escape, is_coded, js_string, short_letter, spelling_by}
-use Rattle.fizz_instructions.specs.Bodies.{IsInstruction, body_of, boundary_id, call_of, call_with, digest_argument, function_of}
+use Rattle.fizz_instructions.specs.Bodies.{body_of, boundary_id, digest_argument}
 use Rattle.fizz_instructions.specs.Functions.{definition_of, name_of}
 use Rattle.fizz_instructions.specs.declared.functions.Function.TheVariants.{ClientRenderBoundary}
 use Rattle.fizz_instructions.specs.Reading.{HasInstruction, IsBodyOf, IsNoBody}

@@ -7,16 +7,15 @@ ghost use Rattle.fizz_instructions.specs.declared.instruction.SentFunctions.{Sen
 ghost use Rattle.document_machine.specs.Documents.{IsDocumentOf, Runs, Steps};
 ghost use Rattle.document_machine.specs.Running.{PageState, ids_of, on_document};
 ghost use Rattle.document_machine.specs.Paths.{IsOpenDocument};
-
 ghost use Rattle.html_read.specs.Tokens.{Tokenizes};
 ghost use Rattle.html_read.specs.declared.token.Token.{Token};
 ghost use Rattle.page_laws.specs.Markup.{AreMarkup};
 ghost use Rattle.page_laws.specs.NodeReveals.{IsPrefixOf};
 ghost use Rattle.page_laws.specs.Nodes.{nodes_of};
 
+use document_machine::{laws_of_documents, laws_of_runs};
 use fizz_instructions::laws_of_instructions;
 use html_read::laws_of_tokens;
-use document_machine::{laws_of_documents, laws_of_runs};
 
 /// Bytes leave one document from nothing, whose nodes are numbered; so are those that they leave from a numbered document.
 pub fn laws_of_starts()

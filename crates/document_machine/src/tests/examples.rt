@@ -5,7 +5,10 @@ ghost use Rattle.dom_forest.specs.Forest.{empty, tree};
 ghost use Rattle.dom_forest.specs.declared.node.NewNode.TheVariants.{Text};
 ghost use Rattle.html_read.specs.declared.token.Token.TheVariants.{Start, Void};
 ghost use Rattle.document_machine.specs.Examples.{container_inside, paragraph_and_end, placeholder, script_inside, shell_and_container};
+ghost use Rattle.document_machine.specs.Faults.{HasSomeFault};
+ghost use Rattle.document_machine.specs.Knowing.{RunsSomewhere};
 ghost use Rattle.document_machine.specs.Places.{first_late, still_open};
+ghost use Rattle.document_machine.specs.Running.{at_first};
 ghost use Rattle.document_machine.specs.Reveals.{has_placeholder_before};
 
 /// A shell ends where the first hidden container at the top begins, or the first script; a container inside an element
@@ -34,4 +37,11 @@ pub(crate) fn what_is_to_come()
         ≡ false }
     ensures whole { has_placeholder_before [] 9
         (paragraph_and_end (tree 2 (Text (codes "a")) empty empty)) ≡ false }
+{}
+
+/// A tag that has only begun is no fault of the bytes, though they are no whole page. An end tag that
+/// closes nothing is one.
+pub(crate) fn what_runs()
+    ensures begun { RunsSomewhere [] at_first (codes "<p") }
+    ensures fault { HasSomeFault [] at_first (codes "</p>") }
 {}

@@ -5,12 +5,15 @@ ghost use Rattle.dom_forest.specs.Boundary.{closing_mark};
 ghost use Rattle.dom_forest.specs.Forest.{empty, joined_forests, tree};
 ghost use Rattle.dom_forest.specs.declared.node.Mark.TheVariants.{Complete, End, Pending};
 ghost use Rattle.dom_forest.specs.declared.node.NewNode.TheVariants.{Comment, Element, Text};
+ghost use Rattle.html_read.specs.declared.token.Token.TheVariants as tok;
+ghost use Rattle.document_machine.specs.Places.{IsClosedAt};
 ghost use Rattle.document_machine.specs.Views.{boundary, element, end, joined_views, text as seen_text, view_of};
 ghost use Rattle.document_machine.specs.declared.status.BoundaryStatus.TheVariants as status;
 ghost use Rattle.page_laws.specs.Documents.{container_element, document_nodes};
 ghost use Rattle.page_laws.specs.Examples.{pending_and_placeholder, with_container};
-ghost use Rattle.page_laws.specs.NodeReveals.{RevealsWholeDocument, has_placeholder};
-ghost use Rattle.page_laws.specs.Nodes.{forest_of_nodes};
+ghost use Rattle.page_laws.specs.NodeReveals.{IsPrefixOf, RevealsWholeDocument, has_placeholder};
+ghost use Rattle.page_laws.specs.Nodes.{forest_of_nodes, node, none};
+ghost use Rattle.page_laws.specs.PagePlaces.{AreOneItem};
 ghost use Rattle.page_laws.specs.PageViews.{page_view, siblings_view};
 ghost use Rattle.page_laws.specs.Pages.{RevealsWholePage, client, complete, hidden_attribute, id_attribute, nothing, page_nodes, pending, placeholder, separator, text};
 
@@ -65,4 +68,25 @@ pub(crate) fn boundaries_shown_whole()
     ensures other_prefix { has_placeholder (codes "r-") (page_nodes [] (placeholder 2 nothing))
         ≡ false }
     ensures boundary_id { has_placeholder [] (page_nodes [] (pending 1 nothing nothing)) ≡ false }
+{}
+
+/// An element with what stands in it is one item, and a script is one; two tags beside each other are two, and a text, which
+/// rests within, is none. Where an element is open its tokens' ends are no places of rest.
+pub(crate) fn what_one_item_is()
+    ensures element { AreOneItem
+        (tok.Start (codes "p") [] 0 ∷ tok.Text (codes "ab") 3 ∷ tok.Void (codes "br") [] 5
+        ∷ tok.End (codes "p") 10 ∷ []) }
+    ensures script { AreOneItem (tok.Script (codes "x") 0 ∷ []) }
+    ensures two { ¬ AreOneItem
+        (tok.Void (codes "br") [] 0 ∷ tok.Void (codes "br") [] 5 ∷ []) }
+    ensures open_still { ¬ AreOneItem (tok.Start (codes "p") [] 0 ∷ []) }
+    ensures text { ¬ AreOneItem (tok.Text (codes "ab") 0 ∷ []) }
+    ensures within_text { IsClosedAt (codes "ab") 1 }
+{}
+
+/// A cut behind `a` of `<p>ab<br/></p>` leaves the front of the text in the open element.
+pub(crate) fn what_a_cut_leaves()
+    ensures { IsPrefixOf (node (Element (codes "p") []) (node (Text (codes "a")) none none) none)
+        (node (Element (codes "p") [])
+        (node (Text (codes "ab")) none (node (Element (codes "br") []) none none)) none) }
 {}
