@@ -1,25 +1,24 @@
 -- The first bytes of markup leave the first nodes of its document.
-use Rattle.std.proofs.Common.{◌≡◌, ◌≢◌, ℕ, ◌+◌, ◌-◌, ◌≤◌, ◌==◌, eqb, inl, inr, Bool, true, false, if◌then◌else◌, Option, Some, List, [], ◌∷◌, ◌++◌, length, reverse, refl, sym, ap, ◌∙◌, subst, arith, append_assoc, append-nil}
+use Rattle.std.proofs.Common.{◌≡◌, ◌≢◌, ℕ, ◌≤◌, ◌==◌, eqb, inl, inr, true, false, if◌then◌else◌, List, [], ◌∷◌, ◌++◌, reverse, refl, sym, ap, ◌∙◌, subst, arith, append_assoc}
 use Rattle.std.specs.Str.{IsUtf8}
 use Rattle.std.proofs.lemmas.Bool.{cases_Bool, cases_eq, cond-false, cond-true, eq-eqb, ne_eqb}
 use Rattle.std.proofs.lemmas.List.{append_cancel_left, reverse-append}
 use Rattle.std.proofs.lemmas.List.Concat.{flat_map-append}
-use Rattle.dom_forest.specs.Edits.{DomState, IsNumbered, with_appended, with_change, with_last}
-use Rattle.dom_forest.specs.Forest.{Forest, IsElement, empty, joined_forests, times, tree}
+use Rattle.dom_forest.specs.Edits.{DomState, with_appended, with_change}
+use Rattle.dom_forest.specs.Forest.{Forest, empty, joined_forests, times, tree}
 use Rattle.dom_forest.specs.declared.node.NewNode.{NewNode}
 use Rattle.dom_forest.specs.declared.node.NewNode.TheVariants.{Comment, Element, Text}
 use Rattle.html_read.specs.Faults.{Splits, begins_tag, ends_in_text}
-use Rattle.html_read.specs.Tokens.{AreTokens, IsToken, Tokenizes, is_text, spelling, spellings}
+use Rattle.html_read.specs.Tokens.{Tokenizes, is_text, spelling, spellings}
 use Rattle.html_read.specs.declared.token.Token.{Token}
 use Rattle.html_read.specs.declared.token.Token.TheVariants as tok
 use Rattle.document_machine.specs.declared.building.OpenElement.{OpenElement}
-use Rattle.document_machine.specs.Documents.{IsTextAtEnd, Runs, Step, Steps, ends, marks, most_open, runs, says, stands, starts}
+use Rattle.document_machine.specs.Documents.{IsTextAtEnd, Runs, Step, Steps, ends, marks, runs, says, stands, starts}
 use Rattle.document_machine.specs.Paths.{IsOpenDocument, IsPath}
-use Rattle.document_machine.specs.Printing.{MayPrint, page_bytes, with_forest}
 use Rattle.document_machine.specs.Running.{PageState, ids_of, innermost, mark_of, with_node, with_open}
 use Rattle.document_machine.proofs.JoinedRuns.{text_no_tag}
 use Rattle.document_machine.proofs.LowerLaws.{ScriptLaws}
-use Rattle.document_machine.proofs.OneStep.{LeadsTo, StepsOver, leads_to, one_end, steps_over}
+use Rattle.document_machine.proofs.OneStep.{StepsOver, leads_to, one_end, steps_over}
 use Rattle.document_machine.proofs.OpenPaths.{Once, document_appended, document_closed, document_opened, path_there}
 use Rattle.document_machine.proofs.RunsLemmas.{numbered_appended}
 use Rattle.document_machine.proofs.Spots.{absent}

@@ -1,6 +1,6 @@
 -- The rest places within one item: an element with what stands in it, or a script.
-use Rattle.std.proofs.Common.{◌≡◌, ℕ, zero, suc, ◌+◌, ◌-◌, ◌<◌, ◌≤◌, ◌⊎◌, inl, inr, Bool, true, false, List, [], ◌∷◌, ◌++◌, codes, length, take, drop, refl, sym, ap, ◌∙◌, subst, arith, append_assoc, append-nil, length-append}
-use Rattle.std.proofs.lemmas.Bool.{cases_Bool, cases_lt}
+use Rattle.std.proofs.Common.{◌≡◌, ℕ, ◌+◌, ◌-◌, ◌<◌, ◌≤◌, ◌⊎◌, inl, inr, Bool, true, false, List, [], ◌∷◌, ◌++◌, codes, length, take, drop, refl, sym, ap, ◌∙◌, subst, arith, append_assoc, append-nil}
+use Rattle.std.proofs.lemmas.Bool.{cases_lt}
 use Rattle.std.proofs.lemmas.List.{append_cancel_left, length-take-le, take-append-drop}
 use Rattle.std.proofs.lemmas.List.Concat.{flat_map-append}
 use Rattle.fizz_text.specs.declared.attribute.Attr.{Attr}
@@ -11,15 +11,15 @@ use Rattle.dom_forest.specs.declared.node.NewNode.TheVariants.{Comment, Element,
 use Rattle.fizz_instructions.specs.Bodies.{body_of, script_of}
 use Rattle.fizz_instructions.specs.declared.instruction.Instruction.{Instruction}
 use Rattle.html_read.specs.Faults.{Splits, begins_tag, ends_in_text}
-use Rattle.html_read.specs.Tokens.{AreTokens, IsToken, Tokenizes, is_text, spelling, spellings}
+use Rattle.html_read.specs.Tokens.{IsToken, Tokenizes, is_text, spelling, spellings}
 use Rattle.html_read.specs.declared.token.Token.{Token}
 use Rattle.html_read.specs.declared.token.Token.TheVariants as tok
 use Rattle.document_machine.specs.Places.{IsClosedAt, open_after, still_open}
-use Rattle.document_machine.specs.Printing.{MayPrint, page_bytes, said_of}
+use Rattle.document_machine.specs.Printing.{MayPrint, page_bytes}
 use Rattle.document_machine.proofs.JoinedRuns.{text_no_tag}
 use Rattle.document_machine.proofs.MovedTokens.{moved, placed, placed_are, placed_spellings}
 use Rattle.document_machine.proofs.PrintedForests.{element_toks, forest_may, forest_spelled, forest_toks}
-use Rattle.document_machine.proofs.TokenRuns.{EndsInText, ends_in}
+use Rattle.document_machine.proofs.TokenRuns.{ends_in}
 use Rattle.page_laws.proofs.PlacesLemmas.{TokenLaws, closed_after, closed_within, nothing_true, still_open-append, then_begun}
 use Rattle.page_laws.specs.PagePlaces.{AreOneItem, ClosesAtEnd, IsClosed, IsOneItem}
 
