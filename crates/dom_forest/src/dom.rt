@@ -25,9 +25,10 @@ use std::marker::Model;
 ///
 /// The nodes stand in a chain in document order, each with its depth and with links to the one before it and the one
 /// after it. A node, or that it is not there, is found by its id at once, and so is a first child. A node's other
-/// neighbours, and the end of what stands below it, are found by going over the nodes between, and `find_id` goes over
-/// all nodes before the one that it finds. `remove` and `insert_before` move the nodes of the part one by one, and no
-/// others. `inner` and `copy` go over all ids that were given.
+/// neighbours, and the end of what stands below it, are found by going over the nodes between. An attribute `id` is looked
+/// up in an ordered map; only where several elements were given one id, `find_id` goes over the nodes from the front, and
+/// so it does in a part that `remove` made, in what `inner` leaves and in a copy. `remove` and `insert_before` move the
+/// nodes of the part one by one, and no others. `inner` and `copy` go over all ids that were given.
 ///
 /// By `append` a document is built in document order in time in proportion to its nodes: a new last node is known then
 /// to reach to the end, and below a node that is known to, or at the top, `append` goes over no other node. Below any
