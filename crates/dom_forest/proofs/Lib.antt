@@ -13,3 +13,4 @@ pub mod Spines
 pub mod Steps
 pub mod There
 pub mod Walks
+pub mod IndexLemmas

@@ -5,6 +5,7 @@ pub mod Edits
 pub mod Flat
 pub mod Forest
 pub mod Ids
+pub mod Index
 pub mod Moves
 pub mod OpenElements
 pub mod Printing

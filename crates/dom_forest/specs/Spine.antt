@@ -1,10 +1,14 @@
 -- The nodes in which the last one stands.
-use Rattle.std.specs.Prelude.{ℕ, ◌<◌, ◌++◌, Bool, true, nat_lt, List, [], ◌∷◌, Option, Some, None, length, reverse}
+use Rattle.std.specs.Prelude.{ℕ, ◌<◌, ◌++◌, Bool, true, nat_lt, List, [], ◌∷◌, Option, Some, None, String, length, reverse}
+use Rattle.std.specs.BTreeMap.{BTreeMap}
+use Rattle.std.specs.declared.alloc.Global.{Global}
+use Rattle.dom_forest.specs.declared.ids.Holder.{Holder}
+use Rattle.dom_forest.specs.Index.{IsIndexOf}
 use Rattle.dom_forest.specs.declared.entry.Entry.{Entry}
 use Rattle.dom_forest.specs.declared.chain.Slot.{Slot}
 use Rattle.dom_forest.specs.declared.chain.Chain.{Chain}
 use Rattle.dom_forest.specs.Chain.{IsChainOf, entries_of, rest_from}
-use Rattle.dom_forest.specs.Flat.{IsDocument}
+use Rattle.dom_forest.specs.Flat.{IsDocument, forest_of}
 
 -- All entries are deeper.
 abbrev pub AllBelow : ℕ → List Entry → Type 0
@@ -37,9 +41,10 @@ pub record IsHeld (chain : Chain) : Type 0 where
   pub document : IsDocument (entries_of chain) (length chain.slots.items)
 
 -- What a document keeps.
-pub record IsKept (chain : Chain) (ids : List ℕ) : Type 0 where
+pub record IsKept (chain : Chain) (ids : List ℕ) (holders : Option (BTreeMap (String Global) Holder)) : Type 0 where
   pub held : IsHeld chain
   pub spine : IsSpineOf (entries_of chain) (length chain.slots.items) ids
+  pub index : IsIndexOf holders (forest_of (entries_of chain))
 
 -- The first of ids.
 abbrev pub first_place : List ℕ → Option ℕ

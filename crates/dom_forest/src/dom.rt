@@ -12,10 +12,12 @@ ghost use Rattle.dom_forest.specs.Seen.{number, shown_option, shown_node};
 
 use crate::chain::{self, Chain};
 use crate::digest::digest_set;
+use crate::ids::{Holders, let_go, make_ready, note_new};
 use crate::node::{DomNode, Mark, NewNode, NodeId};
 use crate::{edits, queries};
 use fizz_text::{OutOfMemory, Text};
 use std::alloc::Global;
+use std::collections::BTreeMap;
 use std::marker::Model;
 
 /// A document whose nodes have ids, as a forest of nodes. A node keeps its id as long as it is there, and the id of a
@@ -23,9 +25,10 @@ use std::marker::Model;
 ///
 /// The nodes stand in a chain in document order, each with its depth and with links to the one before it and the one
 /// after it. A node, or that it is not there, is found by its id at once, and so is a first child. A node's other
-/// neighbours, and the end of what stands below it, are found by going over the nodes between, and `find_id` goes over
-/// all nodes before the one that it finds. `remove` and `insert_before` move the nodes of the part one by one, and no
-/// others. `inner` and `copy` go over all ids that were given.
+/// neighbours, and the end of what stands below it, are found by going over the nodes between. An attribute `id` is looked
+/// up in an ordered map; only where several elements were given one id, `find_id` goes over the nodes from the front, and
+/// so it does in a part that `remove` made, in what `inner` leaves and in a copy. `remove` and `insert_before` move the
+/// nodes of the part one by one, and no others. `inner` and `copy` go over all ids that were given.
 ///
 /// By `append` a document is built in document order in time in proportion to its nodes: a new last node is known then
 /// to reach to the end, and below a node that is known to, or at the top, `append` goes over no other node. Below any
@@ -37,6 +40,8 @@ pub struct Dom {
     /// The ids, in document order, of nodes that are known to reach to the end: nothing comes after them but what stands
     /// below them. So a new child of one of them comes last. Some may be gone.
     spine: Vec<usize>,
+    /// Where ids are looked up. A part that was taken out has none, and is gone over from the front.
+    ids: Option<Holders>,
 }
 
 impl Model for Dom {
@@ -54,7 +59,7 @@ impl Model for Dom {
 
     ghost view = { λ d. record { forest = forest_of (entries_of d.chain); next = length d.chain.slots.items } };
 
-    ghost invariant = { λ d. IsKept d.chain d.spine.items };
+    ghost invariant = { λ d. IsKept d.chain d.spine.items d.ids };
 }
 
 /// Why a part was not inserted. The part comes back.
@@ -73,6 +78,7 @@ impl Dom {
         Dom {
             chain: chain::nothing(alloc),
             spine: Vec::new(alloc),
+            ids: Some(BTreeMap::new(alloc)),
         }
     }
 
@@ -83,7 +89,11 @@ impl Dom {
         let chain = chain::copy(&self.chain)?;
         let mut spine = Vec::new(*self.spine.allocator());
         spine.extend_from_slice(&self.spine)?;
-        Ok(Dom { chain, spine })
+        Ok(Dom {
+            chain,
+            spine,
+            ids: None,
+        })
     }
 
     /// Makes the node the last child of an element that is there, or the last node at the top for `None`. A refusal
@@ -95,7 +105,10 @@ impl Dom {
         ensures err { OnErr result (self.new ≡ self.old) }
         ensures numbered { IsNumbered self.new }
     {
-        edits::append_node(&mut self.chain, &mut self.spine, parent, node)
+        let alloc = *self.spine.allocator();
+        note_new(alloc, &mut self.ids, &self.chain, &node)?;
+        let id = edits::append_node(&mut self.chain, &mut self.spine, parent, node)?;
+        Ok(id)
     }
 
     /// The content of a node, or `None` exactly where it is not there.
@@ -178,10 +191,15 @@ impl Dom {
         let Dom {
             mut chain,
             mut spine,
+            ..
         } = self;
         edits::drop_root(&mut chain);
         spine.clear();
-        Ok(Dom { chain, spine })
+        Ok(Dom {
+            chain,
+            spine,
+            ids: None,
+        })
     }
 
     /// Takes a node out with all below it, which becomes a document of its own with ids from 0; `None` exactly where the
@@ -202,6 +220,7 @@ impl Dom {
         Ok(Some(Dom {
             chain: part,
             spine: Vec::new(alloc),
+            ids: None,
         }))
     }
 
@@ -217,9 +236,11 @@ impl Dom {
             return Err(InsertRefused::NoPlace { part });
         };
         let many = chain::count_all(&part.chain);
-        match self.chain.slots.reserve(many) {
+        let alloc = *self.spine.allocator();
+        match make_ready(alloc, &mut self.chain, &mut self.ids, &part.chain, many) {
             Ok(()) => {
-                let Dom { mut chain, .. } = part;
+                let Dom { mut chain, ids, .. } = part;
+                let_go(ids);
                 edits::put_part(&mut self.chain, &mut chain, place.0, many, depth);
                 Ok(())
             }
@@ -231,7 +252,7 @@ impl Dom {
     pub fn find_id(&self, id: &[u8]) -> Option<NodeId>
         ensures { number result ≡ element_with id.now self.now.forest }
     {
-        queries::find_id(&self.chain, id).map(NodeId)
+        queries::find_id(&self.chain, &self.ids, id).map(NodeId)
     }
 
     /// The `/$` that ends the boundary of a template, among its later siblings, where `$`, `$?` and `$!` count up and

@@ -2,17 +2,18 @@
 
 ghost use Rattle.std.specs.Prelude.{◌≡◌, ◌↔◌, IsTrue, Some};
 ghost use Rattle.std.specs.Option.{option_copied};
-ghost use Rattle.dom_forest.specs.Ids.{element_with};
+ghost use Rattle.dom_forest.specs.Ids.{element_with, has_id};
 ghost use Rattle.dom_forest.specs.Boundary.{end_of_boundary};
 ghost use Rattle.dom_forest.specs.Chain.{entries_of};
 ghost use Rattle.dom_forest.specs.Flat.{forest_of};
 ghost use Rattle.dom_forest.specs.Forest.{IsElement, IsOneElement, content_of, first_id, first_kids, from, next_of, parent_of, previous_of};
+ghost use Rattle.dom_forest.specs.Index.{IsIndexOf, is_content};
 ghost use Rattle.dom_forest.specs.Spine.{IsHeld};
 
 use crate::boundary::closing_after;
 use crate::chain::{Chain, slot_of};
 use crate::entry::{deeper_at, level_at, parent_before, passed, previous_before};
-use crate::ids::first_with;
+use crate::ids::{Holder, Holders, first_with, holder_of, is_named};
 use crate::node::NewNode;
 
 pub(crate) fn content(chain: &Chain, id: usize) -> Option<&NewNode>
@@ -82,11 +83,28 @@ pub(crate) fn end_of_boundary(chain: &Chain, id: usize) -> Option<usize>
     }
 }
 
-pub(crate) fn find_id(chain: &Chain, id: &[u8]) -> Option<usize>
+/// Whether a node is there and has the attribute.
+fn is_holder(chain: &Chain, node: usize, id: &[u8]) -> bool
     requires { IsHeld chain.now }
+    ensures { result
+        ≡ is_content (has_id id.now) (content_of node (forest_of (entries_of chain.now))) }
+{
+    match content(chain, node) {
+        Some(node) => is_named(node, id),
+        None => false,
+    }
+}
+
+pub(crate) fn find_id(chain: &Chain, ids: &Option<Holders>, id: &[u8]) -> Option<usize>
+    requires held { IsHeld chain.now }
+    requires index { IsIndexOf ids.now (forest_of (entries_of chain.now)) }
     ensures { result ≡ element_with id.now (forest_of (entries_of chain.now)) }
 {
-    first_with(chain, id)
+    match holder_of(ids, id) {
+        None => None,
+        Some(Holder::One(node)) => is_holder(chain, node, id).then_some(node),
+        Some(Holder::Many) => first_with(chain, id),
+    }
 }
 
 /// Whether there is one node at the top, an element.
