@@ -1,6 +1,6 @@
 //! The pieces of small pages. Trees are built by hand, as the source beside each spells them.
 
-ghost use Rattle.std.specs.Prelude.{◌≤◌, length};
+ghost use Rattle.std.specs.Prelude.{◌≡◌, ◌≤◌, length};
 ghost use Rattle.fizz_piece.specs.Pieces.{IsGoodWork};
 ghost use Rattle.fizz_piece.specs.Plans.{longest_prefix};
 
@@ -25,7 +25,8 @@ fn app_of(alloc: Global, file: File) -> Result<App, Fail> {
 /// The work of a whole page.
 fn root_work<'a>(alloc: Global, plan: &Plan<'a>, settled: u32, flags: Flags) -> Work<'a>
     requires { settled ≤ length plan.now.outcomes.now }
-    ensures { IsGoodWork plan.now result }
+    ensures good { IsGoodWork plan.now result }
+    ensures settled { result.settled ≡ settled }
 {
     Work {
         task: 0,
