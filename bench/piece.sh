@@ -8,8 +8,7 @@ time_over piece_bench fizz_text html_names html_print jsx_lex jsx_syntax jsx_che
     fizz_piece sqlite_items <<'RT'
 #![tactic(auto)]
 
-ghost use Rattle.std.specs.Prelude.{◌≤◌, IfOk, length};
-ghost use Rattle.jsx_syntax.specs.Rules.{IsApp};
+ghost use Rattle.std.specs.Prelude.{◌≤◌, length};
 ghost use Rattle.fizz_piece.specs.Pieces.{IsGoodWork};
 
 use fizz_piece::{Flags, Options, Piece, Plan, Work, render_piece};
@@ -102,9 +101,7 @@ fn script_text(alloc: Global, leaves: u32) -> Result<String, Fail> {
     Ok(script)
 }
 
-fn app_of(alloc: Global, is_hole: bool) -> Result<App, Fail>
-    ensures { IfOk result (λ app. IsApp app) }
-{
+fn app_of(alloc: Global, is_hole: bool) -> Result<App, Fail> {
     let file = page(alloc, is_hole)?;
     Ok(check(alloc, file)?)
 }

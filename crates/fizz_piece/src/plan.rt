@@ -1,7 +1,6 @@
 //! What is to be rendered.
 
 ghost use Rattle.std.specs.Prelude.{◌≡◌, ◌≤◌, length, IfOk, IfErr};
-ghost use Rattle.jsx_syntax.specs.Rules.{IsApp};
 ghost use Rattle.jsx_value.specs.Weights.{IsTooLarge, most_weight};
 ghost use Rattle.fizz_piece.specs.Plans.{longest_prefix, settled_weight};
 
@@ -29,7 +28,6 @@ pub struct Plan<'a> {
     pub app: &'a App,
     pub outcomes: &'a Outcomes,
     pub options: &'a Options,
-    pub ghost meets_the_rules: { ∥ IsApp app.now ∥₁ },
     pub ghost within: { settled_weight app.now outcomes.now options.now.prefix ≤ most_weight },
     pub ghost short_prefix: { length options.now.prefix ≤ longest_prefix },
     pub ghost some_chunk: { 1 ≤ options.now.chunk },
@@ -43,7 +41,6 @@ impl<'a> Plan<'a> {
         outcomes: &'a Outcomes,
         options: &'a Options,
     ) -> Result<Plan<'a>, WeighRefused>
-        requires rules { IsApp app.now }
         requires prefix { length options.now.prefix ≤ longest_prefix }
         requires chunk { 1 ≤ options.now.chunk }
         ensures app { IfOk result (λ plan. plan.app ≡ app.entry) }

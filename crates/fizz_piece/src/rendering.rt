@@ -1,6 +1,7 @@
 //! The rendering of a piece.
 
 ghost use Rattle.std.specs.Prelude.{◌≡◌, ◌≢◌, ◌&&◌, ℕ, List, Some, IfOk, IfErr};
+ghost use Rattle.jsx_syntax.specs.Rules.{IsApp};
 ghost use Rattle.jsx_value.specs.Expansions.{IsUnfolded};
 ghost use Rattle.jsx_value.specs.SeenPlaces.{place_at, place_shape};
 ghost use Rattle.jsx_value.specs.Spots.{wait};
@@ -65,7 +66,8 @@ fn outcome_of<'a>(alloc: Global, plan: &Plan<'a>, work: &Work<'a>) -> Result<Out
 
 /// The page of a plan, where so many of its outcomes are known.
 fn page_of<'a>(plan: &Plan<'a>, settled: u32) -> Page<'a>
-    ensures { page_of result ≡ page_under plan.now settled }
+    ensures page { page_of result ≡ page_under plan.now settled }
+    ensures app { IsApp plan.now.app.now }
 {
     Page {
         file: plan.app.file(),

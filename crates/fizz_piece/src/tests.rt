@@ -1,7 +1,6 @@
 //! The pieces of small pages. Trees are built by hand, as the source beside each spells them.
 
-ghost use Rattle.std.specs.Prelude.{◌≤◌, IfOk, length};
-ghost use Rattle.jsx_syntax.specs.Rules.{IsApp};
+ghost use Rattle.std.specs.Prelude.{◌≡◌, ◌≤◌, length};
 ghost use Rattle.fizz_piece.specs.Pieces.{IsGoodWork};
 ghost use Rattle.fizz_piece.specs.Plans.{longest_prefix};
 
@@ -19,16 +18,15 @@ use shown::piece_in_words;
 use std::alloc::Global;
 use std::test::Fail;
 
-fn app_of(alloc: Global, file: File) -> Result<App, Fail>
-    ensures { IfOk result (λ app. IsApp app) }
-{
+fn app_of(alloc: Global, file: File) -> Result<App, Fail> {
     Ok(check(alloc, file)?)
 }
 
 /// The work of a whole page.
 fn root_work<'a>(alloc: Global, plan: &Plan<'a>, settled: u32, flags: Flags) -> Work<'a>
     requires { settled ≤ length plan.now.outcomes.now }
-    ensures { IsGoodWork plan.now result }
+    ensures good { IsGoodWork plan.now result }
+    ensures settled { result.settled ≡ settled }
 {
     Work {
         task: 0,

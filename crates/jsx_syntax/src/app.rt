@@ -36,8 +36,10 @@ impl App {
         App { file }
     }
 
+    /// The file, which meets the rules.
     pub fn file(&self) -> &File
-        ensures { result.now ≡ self.now }
+        ensures same { result.now ≡ self.now }
+        ensures app { IsApp result.now }
     {
         &self.file
     }

@@ -1,7 +1,6 @@
 //! The weight of a page.
 
 ghost use Rattle.std.specs.Prelude.{◌≡◌, ◌≤◌, ◌<◌, ◌+◌, ◌++◌, length, sum_by, IfOk, IfErr, OnOk};
-ghost use Rattle.jsx_syntax.specs.Rules.{IsApp};
 ghost use Rattle.jsx_value.specs.Spots.{attribute_weight};
 ghost use Rattle.jsx_value.specs.Weights.{AddsUp, IsTooLarge, IsWithin, bytes_weight, inside_of, most_weight, page_weight};
 ghost use Rattle.jsx_value.specs.Weighing.{kin_weight, layer_weight, stack_weight};
@@ -63,7 +62,6 @@ pub fn weigh(
     settled: u32,
     prefix: &Text,
 ) -> Result<u32, WeighRefused>
-    requires { IsApp app.now }
     ensures weight { IfOk result (λ weight. weight
         ≡ page_weight (page_with app.now outcomes.now settled prefix.now)) }
     ensures within { IfOk result (λ weight. weight ≤ most_weight) }

@@ -1,7 +1,6 @@
 //! The expansion of a page.
 
 ghost use Rattle.std.specs.Prelude.{◌≡◌, ◌≤◌, ◌<◌, ◌++◌, ◌∷◌, [], map, IfOk, IfErr, OnOk};
-ghost use Rattle.jsx_syntax.specs.Rules.{IsApp};
 ghost use Rattle.jsx_value.specs.Weights.{IsTooLarge, most_weight, page_weight};
 ghost use Rattle.jsx_value.specs.SeenPlaces.{page_with, place_of};
 ghost use Rattle.settled_tree.specs.Forests.{forest_of};
@@ -35,7 +34,6 @@ pub fn expand(
     settled: u32,
     prefix: &Text,
 ) -> Result<Forest, WeighRefused>
-    requires { IsApp app.now }
     ensures nodes { IfOk result (λ forest. forest.nodes
         ≡ forest_of (page_with app.now outcomes.now settled prefix.now)) }
     ensures within { IfOk result (λ forest.

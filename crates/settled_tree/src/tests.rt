@@ -1,9 +1,6 @@
 //! Small pages with their weights, forests, failures and final documents. Trees are built by hand, as the source beside
 //! each spells them.
 
-ghost use Rattle.std.specs.Prelude.{IfOk};
-ghost use Rattle.jsx_syntax.specs.Rules.{IsApp};
-
 mod pages;
 mod shown;
 
@@ -19,9 +16,7 @@ use shown::forest_in_words;
 use std::alloc::Global;
 use std::test::Fail;
 
-fn app_of(alloc: Global, file: File) -> Result<App, Fail>
-    ensures { IfOk result (λ app. IsApp app) }
-{
+fn app_of(alloc: Global, file: File) -> Result<App, Fail> {
     Ok(check(alloc, file)?)
 }
 
@@ -43,9 +38,7 @@ fn weight_in_words(
     app: &App,
     outcomes: &Outcomes,
     settled: u32,
-) -> Result<String, Fail>
-    requires { IsApp app.now }
-{
+) -> Result<String, Fail> {
     let prefix = Text::fixed("");
     let weight = weigh(alloc, app, outcomes, settled, &prefix)?;
     Ok(format!(in alloc; "{weight} ")?)

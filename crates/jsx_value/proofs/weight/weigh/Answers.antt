@@ -9,6 +9,6 @@ use Rattle.jsx_value.proofs.weight.weigh.Goals as goal
 pub weigh_page-requires : goal.weigh_page-requires
 weigh_page-requires c =
     subst (λ (cs : List Component). AddsUp (record { known = known c.args.outcomes.now c.args.settled; components = reverse cs; prefix = c.args.prefix.now }))
-    (sym (c.as_slice.ensures ∙ ap (λ (file : File). file.components) c.file-file.ensures))
-    (c.laws_of_expansions.ensures.weight (page_with c.args.app.now c.args.outcomes.now c.args.settled c.args.prefix.now)
-    (c.laws_of_apps.ensures c.args.app.now c.requires))
+    (sym c.as_slice.ensures)
+    (c.laws_of_expansions.ensures.weight (page_with c.file-file.result.now c.args.outcomes.now c.args.settled c.args.prefix.now)
+    (c.laws_of_apps.ensures c.file-file.result.now c.file-file.ensures.app))
