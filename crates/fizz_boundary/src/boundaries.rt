@@ -76,18 +76,26 @@ impl Boundaries {
         self.bounds.len() as u32
     }
 
-    /// Makes a boundary, which has one task, its content. Its number is answered.
-    pub fn add(&mut self, path: Path, parent: Option<u32>, root: SegId) -> u32
+    /// Makes a boundary, which has one task, its content, of the segments of its content and its fallback. Its number is
+    /// answered.
+    pub fn add(
+        &mut self,
+        path: Path,
+        parent: Option<u32>,
+        root: SegId,
+        site: Option<SegId>,
+    ) -> u32
         requires spare { 0 < self.old.spare }
         requires parent { IsParent self.old parent }
         ensures number { result ≡ length self.old.bounds }
-        ensures added { self.new ≡ added path parent root self.old }
+        ensures added { self.new ≡ added path parent root site self.old }
     {
         let id = self.bounds.len() as u32;
         self.bounds.push_reserved(Bound {
             path,
             parent,
             root,
+            site,
             state: State::Pending { tasks: 1, bytes: 0 },
         });
         self.marks.push_reserved(Mark {
@@ -108,6 +116,7 @@ impl Boundaries {
         BoundaryView {
             parent: bound.parent,
             root: bound.root,
+            site: bound.site,
             drawn: mark.drawn,
             revealed: mark.revealed,
         }
