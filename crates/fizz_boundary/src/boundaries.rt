@@ -1,9 +1,10 @@
-ghost use Rattle.std.specs.Prelude.{◌≡◌, ◌↔◌, ◌+◌, ◌<◌, ◌^◌, length, IsTrue, IfSome, OnOk, OnErr, IsSome, Some, None};
+ghost use Rattle.std.specs.Prelude.{◌≡◌, ◌↔◌, ◌+◌, ◌<◌, ◌^◌, length, IsTrue, IfSome, IfOk, OnOk, OnErr, IsSome, Some, None};
 ghost use Rattle.fizz_boundary.specs.declared.boundary.State.TheVariants.{Pending};
 ghost use Rattle.fizz_boundary.specs.Bounds.{tasks_of};
 ghost use Rattle.fizz_boundary.specs.Calls.{one_done};
 
 use crate::boundary::{Bound, BoundaryView, Mark, Part, State, Status};
+use crate::marks::Marks;
 use fizz_segment::SegId;
 use fizz_text::{OutOfMemory, Path, Text};
 use std::alloc::Global;
@@ -157,6 +158,23 @@ impl Boundaries {
         ensures { self.new ≡ with_revealed id self.old }
     {
         self.marks[id as usize].revealed = true;
+    }
+
+    /// A copy of how the boundaries are printed.
+    pub fn marks(&self, alloc: Global) -> Result<Marks, OutOfMemory>
+        ensures marks { IfOk result (λ m. m ≡ self.now.marks) }
+        ensures bounds { AreBounds self.now }
+    {
+        let items = Vec::from_slice(alloc, &self.marks)?;
+        Ok(Marks { items })
+    }
+
+    /// The boundaries are printed as a changed copy says.
+    pub fn set_marks(&mut self, marks: &Marks)
+        requires { length marks.now ≡ length self.old.bounds }
+        ensures { self.new ≡ record self.old { marks = marks.now } }
+    {
+        self.marks.copy_from_slice(&marks.items);
     }
 
     /// The boundary gets a task more.
