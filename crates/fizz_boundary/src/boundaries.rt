@@ -32,7 +32,7 @@ impl Model for Boundaries {
 }
 
 impl Boundaries {
-    ghost use Rattle.fizz_boundary.specs.Bounds.{AreBounds, bound_at, tasks_left};
+    ghost use Rattle.fizz_boundary.specs.Bounds.{AreBounds, bound_at, mark_at, tasks_left};
     ghost use Rattle.fizz_boundary.specs.Calls.{IsMade, IsParent, IsPending, added, failed_with, no_boundaries, one_done, one_more, reserved, with_drawn, with_revealed, with_state};
     ghost use Rattle.fizz_boundary.specs.Views.{IsLook, OfBound, Shows};
 
@@ -158,6 +158,19 @@ impl Boundaries {
         ensures { self.new ≡ with_revealed id self.old }
     {
         self.marks[id as usize].revealed = true;
+    }
+
+    /// How a boundary is printed; one that was never made isn't.
+    pub fn mark(&self, id: u32) -> Mark
+        ensures { result ≡ mark_at self.now.marks id }
+    {
+        match self.marks.get(id as usize) {
+            Some(mark) => *mark,
+            None => Mark {
+                drawn: None,
+                revealed: false,
+            },
+        }
     }
 
     /// A copy of how the boundaries are printed.
