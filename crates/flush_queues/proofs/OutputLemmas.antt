@@ -1,5 +1,5 @@
 -- What is written in parts.
-use Rattle.std.proofs.Common.{◌≡◌, ℕ, List, [], ◌∷◌, ◌++◌, ◌∙◌, ap, subst, sym, refl}
+use Rattle.std.proofs.Common.{◌≡◌, ℕ, List, ◌∷◌, ◌++◌, ◌∙◌, ap, subst, sym, refl}
 use Rattle.std.specs.Prelude.{codes}
 use Rattle.html_names.specs.Escape.{escape_of}
 use Rattle.flush_queues.specs.Flows.{digest_template}

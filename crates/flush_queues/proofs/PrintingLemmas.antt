@@ -4,7 +4,7 @@ use Rattle.fizz_segment.specs.Tree.{after as after_in, is_kid, kids_of, mark_at,
 use Rattle.fizz_segment.specs.declared.segment.Mark.{Mark}
 use Rattle.fizz_segment.specs.declared.segment.Part.{Part}
 use Rattle.flush_queues.specs.Flows.{Tables, Stage as Standing, complete, failed, failed_bytes, inline, late, passed, pending, place_of, root_at, site_of, stage_at, stage_of, stage_with, way_at, with_begun, with_end, with_inline, with_late, with_placeholder, with_written}
-use Rattle.flush_queues.specs.Frames.{IsKidIf, Runs, RunsFrame, RunsKid, RunsRest, RunsSegment, RunsWith, bytes_with, closed, kids_from, part_bytes, stage_kind}
+use Rattle.flush_queues.specs.Frames.{IsKidIf, Runs, RunsFrame, RunsKid, RunsSegment, RunsWith, bytes_with, closed, kids_from, part_bytes, stage_kind}
 use Rattle.flush_queues.specs.Printing.{Prints, ends, goes_on, has_failed, is_child, is_inline, is_late, kid, names, passes, prints, rest, segment}
 use Rattle.flush_queues.specs.declared.flow.Flow.{Flow}
 use Rattle.flush_queues.specs.declared.frame.Frame.{Frame}

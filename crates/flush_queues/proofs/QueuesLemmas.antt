@@ -1,6 +1,5 @@
 -- Lists without an id that stands in none of them.
-use Rattle.std.proofs.Common.{◌≡◌, ◌≢◌, ◌<◌, ◌≤◌, ◌+◌, ◌==◌, ℕ, zero, suc, Bool, true, false, not, List, [], ◌∷◌, ◌++◌, length, sym, ap, refl, arith}
-use Rattle.std.specs.Prelude.{filter, map}
+use Rattle.std.proofs.Common.{◌≡◌, ◌<◌, ◌≤◌, ◌+◌, ◌==◌, ℕ, zero, suc, Bool, true, false, List, [], ◌∷◌, ◌++◌, length, sym, ap, refl, arith}
 use Rattle.id_lists.specs.Lists.{AreLists, Lists, list_at, one, times, times_in_all}
 use Rattle.std.proofs.lemmas.List.{length-map}
 use Rattle.id_lists.specs.Calls.{CanPush, list_without, without}

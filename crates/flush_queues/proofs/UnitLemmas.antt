@@ -1,10 +1,10 @@
 -- Units of a flush, and how many marks they leave.
-use Rattle.std.proofs.Common.{◌≡◌, ℕ, Bool, true, false, List, [], ◌∷◌, length, slice_set, Option, Some, None, sym, ◌∙◌, ap, subst, refl}
+use Rattle.std.proofs.Common.{◌≡◌, ℕ, Bool, true, false, List, [], ◌∷◌, Some, None, sym, ◌∙◌, ap, subst, refl}
 use Rattle.std.proofs.lemmas.List.{length-set}
 use Rattle.id_lists.specs.Lists.{first_of}
 use Rattle.flush_queues.specs.Flows.{Tables}
 use Rattle.flush_queues.specs.Flushed.{AreAsMany}
-use Rattle.flush_queues.specs.Flushing.{Flushes, Sends, Serves, Unit as FlushUnit, begins, goes_on as goes_on_without_shell, leaves, over, part_role, refuses, reveals, role_at, sends_complete, sends_partial, serves, stops, stops_at_shell, turns, with_container_end, with_moved, with_refused}
+use Rattle.flush_queues.specs.Flushing.{Flushes, Sends, Serves, Unit as FlushUnit, begins, goes_on as goes_on_without_shell, leaves, over, refuses, reveals, role_at, sends_complete, sends_partial, serves, stops, stops_at_shell, turns, with_moved, with_refused}
 use Rattle.flush_queues.specs.Printing.{Job, Prints, ends, goes_on, has_failed, is_child, is_inline, is_late, names, passes, prints}
 use Rattle.flush_queues.specs.Queues.{queue_of}
 use Rattle.flush_queues.specs.declared.flow.Flow.{Flow}

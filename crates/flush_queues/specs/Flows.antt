@@ -1,5 +1,5 @@
 -- What a flush reads, what it changes, and the steps by which it does so.
-use Rattle.std.specs.Prelude.{ℕ, ◌+◌, Bool, true, false, not, nat_le, if◌then◌else◌, List, [], ◌∷◌, ◌++◌, codes, slice_set, Option, Some, None, is_some}
+use Rattle.std.specs.Prelude.{ℕ, Bool, true, false, not, nat_le, if◌then◌else◌, List, [], ◌∷◌, ◌++◌, codes, slice_set, Option, Some, None}
 use Rattle.html_names.specs.Comments.{comment_spelling}
 use Rattle.html_names.specs.Escape.{escape_of}
 use Rattle.html_names.specs.declared.comments.CommentKind.TheVariants.{Complete as ShownMarker, Pending as PendingMarker, Client as ClientMarker, End as EndMarker}

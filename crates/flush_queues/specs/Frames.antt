@@ -2,7 +2,7 @@
 use Rattle.std.specs.Prelude.{◌≡◌, ℕ, true, List, [], ◌∷◌, Option, Some, None}
 use Rattle.fizz_segment.specs.Tree.{after as after_in, is_kid, kids_of, part_at}
 use Rattle.fizz_segment.specs.declared.segment.Part.{Part}
-use Rattle.flush_queues.specs.Flows.{Tables, complete, passed, pending, stage_at, Stage as Standing, with_awaited, with_end, Way as Printing, failed, inline, late}
+use Rattle.flush_queues.specs.Flows.{Tables, complete, passed, pending, Stage as Standing, with_awaited, with_end, Way as Printing, failed, inline, late}
 use Rattle.flush_queues.specs.Printing.{Prints, kid, rest, segment}
 use Rattle.flush_queues.specs.declared.flow.Flow.{Flow}
 use Rattle.flush_queues.specs.declared.page.Page.{Page}

@@ -1,4 +1,4 @@
-use Rattle.std.proofs.Common.{◌≡◌, [], subst, sym, refl, arith, length}
+use Rattle.std.proofs.Common.{◌≡◌, [], subst, sym, refl, arith}
 use Rattle.std.proofs.lemmas.List.{nil_from_length}
 use Rattle.flush_queues.specs.Frames.{Runs, tables_of}
 use Rattle.flush_queues.proofs.PrintingLemmas.{Runs-with, printed_whole}

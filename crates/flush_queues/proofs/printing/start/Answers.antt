@@ -1,4 +1,4 @@
-use Rattle.std.proofs.Common.{subst, sym}
+use Rattle.std.proofs.Common.{subst}
 use Rattle.flush_queues.specs.Frames.{Runs, tables_of}
 use Rattle.flush_queues.proofs.PrintingLemmas.{on_ok, segment_begun, segment_named, segment_passes}
 use Rattle.flush_queues.proofs.printing.start.Goals as goal

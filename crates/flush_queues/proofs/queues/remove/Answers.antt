@@ -1,4 +1,4 @@
-use Rattle.std.proofs.Common.{arith, subst}
+use Rattle.std.proofs.Common.{arith}
 use Rattle.flush_queues.proofs.QueuesLemmas.{without-unmade}
 use Rattle.flush_queues.proofs.queues.remove.Goals as goal
 

@@ -1,6 +1,5 @@
-use Rattle.std.proofs.Common.{◌≡◌, arith, subst, sym, ap, ◌∙◌}
-use Rattle.id_lists.specs.Lists.{Lists, times_in_all}
-use Rattle.id_lists.specs.Calls.{CanPush}
+use Rattle.std.proofs.Common.{◌≡◌, arith, subst, sym}
+use Rattle.id_lists.specs.Lists.{times_in_all}
 use Rattle.flush_queues.specs.declared.queues.Queues.{Queues}
 use Rattle.flush_queues.proofs.QueuesLemmas.{times_in_all-without}
 use Rattle.flush_queues.proofs.queues.Queues.enter.Goals as goal
