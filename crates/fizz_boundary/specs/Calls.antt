@@ -12,9 +12,10 @@ abbrev pub reserved : ℕ → Bounds → Bounds
 reserved n all = record all { spare = max all.spare n }
 
 -- one boundary more, whose content is its one task
-abbrev pub added : List ℕ → Option ℕ → ℕ → Bounds → Bounds
-added path parent root all = record all {
-  bounds = all.bounds ++ record { path = path; parent = parent; root = root; state = Pending 1 0 } ∷ [];
+abbrev pub added : List ℕ → Option ℕ → ℕ → Option ℕ → Bounds → Bounds
+added path parent root site all = record all {
+  bounds = all.bounds
+      ++ record { path = path; parent = parent; root = root; site = site; state = Pending 1 0 } ∷ [];
   marks = all.marks ++ blank ∷ [];
   spare = all.spare - 1;
 }

@@ -25,5 +25,5 @@ OfBound fact None = ⊥
 OfBound fact (Some bound) = fact bound
 
 pub record IsLook (all : Bounds) (id : ℕ) (view : BoundaryView) : Type 0 where
-  pub bound : OfBound (λ b. (view.parent ≡ b.parent) × (view.root ≡ b.root)) (bound_at all.bounds id)
+  pub bound : OfBound (λ b. (view.parent ≡ b.parent) × (view.root ≡ b.root) × (view.site ≡ b.site)) (bound_at all.bounds id)
   pub mark : mark_at all.marks id ≡ record { drawn = view.drawn; revealed = view.revealed }

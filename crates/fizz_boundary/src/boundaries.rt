@@ -1,9 +1,10 @@
-ghost use Rattle.std.specs.Prelude.{◌≡◌, ◌↔◌, ◌+◌, ◌<◌, ◌^◌, length, IsTrue, IfSome, OnOk, OnErr, IsSome, Some, None};
+ghost use Rattle.std.specs.Prelude.{◌≡◌, ◌↔◌, ◌+◌, ◌<◌, ◌^◌, length, IsTrue, IfSome, IfOk, OnOk, OnErr, IsSome, Some, None};
 ghost use Rattle.fizz_boundary.specs.declared.boundary.State.TheVariants.{Pending};
 ghost use Rattle.fizz_boundary.specs.Bounds.{tasks_of};
 ghost use Rattle.fizz_boundary.specs.Calls.{one_done};
 
 use crate::boundary::{Bound, BoundaryView, Mark, Part, State, Status};
+use crate::marks::Marks;
 use fizz_segment::SegId;
 use fizz_text::{OutOfMemory, Path, Text};
 use std::alloc::Global;
@@ -31,7 +32,7 @@ impl Model for Boundaries {
 }
 
 impl Boundaries {
-    ghost use Rattle.fizz_boundary.specs.Bounds.{AreBounds, bound_at, tasks_left};
+    ghost use Rattle.fizz_boundary.specs.Bounds.{AreBounds, bound_at, mark_at, tasks_left};
     ghost use Rattle.fizz_boundary.specs.Calls.{IsMade, IsParent, IsPending, added, failed_with, no_boundaries, one_done, one_more, reserved, with_drawn, with_revealed, with_state};
     ghost use Rattle.fizz_boundary.specs.Views.{IsLook, OfBound, Shows};
 
@@ -76,18 +77,26 @@ impl Boundaries {
         self.bounds.len() as u32
     }
 
-    /// Makes a boundary, which has one task, its content. Its number is answered.
-    pub fn add(&mut self, path: Path, parent: Option<u32>, root: SegId) -> u32
+    /// Makes a boundary, which has one task, its content, of the segments of its content and its fallback. Its number is
+    /// answered.
+    pub fn add(
+        &mut self,
+        path: Path,
+        parent: Option<u32>,
+        root: SegId,
+        site: Option<SegId>,
+    ) -> u32
         requires spare { 0 < self.old.spare }
         requires parent { IsParent self.old parent }
         ensures number { result ≡ length self.old.bounds }
-        ensures added { self.new ≡ added path parent root self.old }
+        ensures added { self.new ≡ added path parent root site self.old }
     {
         let id = self.bounds.len() as u32;
         self.bounds.push_reserved(Bound {
             path,
             parent,
             root,
+            site,
             state: State::Pending { tasks: 1, bytes: 0 },
         });
         self.marks.push_reserved(Mark {
@@ -108,6 +117,7 @@ impl Boundaries {
         BoundaryView {
             parent: bound.parent,
             root: bound.root,
+            site: bound.site,
             drawn: mark.drawn,
             revealed: mark.revealed,
         }
@@ -148,6 +158,36 @@ impl Boundaries {
         ensures { self.new ≡ with_revealed id self.old }
     {
         self.marks[id as usize].revealed = true;
+    }
+
+    /// How a boundary is printed; one that was never made isn't.
+    pub fn mark(&self, id: u32) -> Mark
+        ensures { result ≡ mark_at self.now.marks id }
+    {
+        match self.marks.get(id as usize) {
+            Some(mark) => *mark,
+            None => Mark {
+                drawn: None,
+                revealed: false,
+            },
+        }
+    }
+
+    /// A copy of how the boundaries are printed.
+    pub fn marks(&self, alloc: Global) -> Result<Marks, OutOfMemory>
+        ensures marks { IfOk result (λ m. m ≡ self.now.marks) }
+        ensures bounds { AreBounds self.now }
+    {
+        let items = Vec::from_slice(alloc, &self.marks)?;
+        Ok(Marks { items })
+    }
+
+    /// The boundaries are printed as a changed copy says.
+    pub fn set_marks(&mut self, marks: &Marks)
+        requires { length marks.now ≡ length self.old.bounds }
+        ensures { self.new ≡ record self.old { marks = marks.now } }
+    {
+        self.marks.copy_from_slice(&marks.items);
     }
 
     /// The boundary gets a task more.

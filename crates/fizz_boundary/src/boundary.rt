@@ -9,12 +9,13 @@ pub enum State {
     Failed { digest: Text },
 }
 
-/// A boundary: where it stands, the boundary around it, and the segment of its content.
+/// A boundary: where it stands, the boundary around it, and the segments of its content and its fallback.
 #[derive(Debug, Drop)]
 pub struct Bound {
     pub path: Path,
     pub parent: Option<u32>,
     pub root: SegId,
+    pub site: Option<SegId>,
     pub state: State,
 }
 
@@ -30,8 +31,10 @@ pub struct Mark {
 pub struct BoundaryView {
     /// The boundary around it, or the shell for `None`.
     pub parent: Option<u32>,
-    /// The segment that it was made with.
+    /// The segment of its content.
     pub root: SegId,
+    /// The segment of its fallback, unless that was printed before.
+    pub site: Option<SegId>,
     /// The id that it is printed with while it is pending.
     pub drawn: Option<u32>,
     /// Whether it is printed as complete, or its instruction is printed.

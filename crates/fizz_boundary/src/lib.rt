@@ -3,10 +3,12 @@
 
 mod boundaries;
 mod boundary;
+mod marks;
 mod places;
 
 pub use boundaries::Boundaries;
-pub use boundary::{BoundaryView, Part, Status};
+pub use boundary::{BoundaryView, Mark, Part, Status};
+pub use marks::Marks;
 pub use places::{HolePlace, Place, Places};
 
 #[cfg(test)]

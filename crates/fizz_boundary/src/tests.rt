@@ -10,7 +10,7 @@ fn a_boundary_is_complete_with_its_last_task(rt: HostRuntime) -> Result<(), Fail
     boundaries.reserve(2)?;
     let mut path = Path::new(alloc);
     path.push(1)?;
-    let outer = boundaries.add(path, None, SegId(4));
+    let outer = boundaries.add(path, None, SegId(4), Some(SegId(5)));
     boundaries.part_added(outer);
     assert_eq!(rt; boundaries.part_done(outer, 10), Part::Waiting);
     assert_eq!(rt; boundaries.part_done(outer, 5), Part::Complete);
@@ -22,8 +22,8 @@ fn a_boundary_is_complete_with_its_last_task(rt: HostRuntime) -> Result<(), Fail
     boundaries.reveal(outer);
     let view = boundaries.look(outer);
     assert_eq!(rt;
-        (view.root, view.drawn, view.revealed),
-        (SegId(4), Some(9), true)
+        (view.root, view.site, view.drawn, view.revealed),
+        (SegId(4), Some(SegId(5)), Some(9), true)
     );
     assert_eq!(rt; boundaries.path(outer).steps(), [1].as_slice());
     Ok(())
@@ -35,7 +35,7 @@ fn a_failed_boundary_keeps_its_digest(rt: HostRuntime) -> Result<(), Fail> {
     let mut boundaries = Boundaries::new(alloc);
     boundaries.reserve(1)?;
     assert_eq!(rt; boundaries.next(), 0);
-    let id = boundaries.add(Path::new(alloc), None, SegId(0));
+    let id = boundaries.add(Path::new(alloc), None, SegId(0), None);
     boundaries.fail(id, Text::fixed("e1"));
     match boundaries.status(id) {
         Status::Failed { digest } => assert_eq!(rt; digest.as_str(), "e1"),

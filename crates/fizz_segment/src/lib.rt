@@ -4,11 +4,13 @@
 mod laws;
 mod linking;
 mod links;
+mod marks;
 mod segment;
 mod segments;
 
 pub use laws::laws_of_kids;
-pub use segment::{Flags, SegId, SegKind, SegView};
+pub use marks::Marks;
+pub use segment::{Flags, Mark, SegId, SegKind, SegView};
 pub use segments::Segments;
 
 #[cfg(test)]

@@ -1,4 +1,4 @@
-ghost use Rattle.std.specs.Prelude.{◌≡◌, ◌+◌, ◌<◌, ◌^◌, ◌↔◌, length, false, true, drop, IsTrue, OnOk, OnErr, Some, None};
+ghost use Rattle.std.specs.Prelude.{◌≡◌, ◌+◌, ◌<◌, ◌^◌, ◌↔◌, length, false, true, drop, IsTrue, IfOk, OnOk, OnErr, Some, None};
 ghost use Rattle.std.specs.Option.{option_copied};
 ghost use Rattle.fizz_segment.specs.Tree.{part_at};
 ghost use Rattle.fizz_segment.specs.Linked.{IsMadeBefore};
@@ -7,6 +7,7 @@ ghost use Rattle.fizz_segment.specs.Calls.{is_complete, with_bytes};
 
 use crate::linking;
 use crate::links::Links;
+use crate::marks::Marks;
 use crate::segment::{Flags, Mark, Part, SegId, SegKind, SegView};
 use fizz_text::OutOfMemory;
 use sqlite_items::Items;
@@ -220,6 +221,23 @@ impl Segments {
         ensures { self.new ≡ with_printed id self.old }
     {
         self.marks[id.0 as usize].printed = true;
+    }
+
+    /// A copy of how the segments are printed.
+    pub fn marks(&self, alloc: Global) -> Result<Marks, OutOfMemory>
+        ensures marks { IfOk result (λ m. m ≡ self.now.marks) }
+        ensures tree { IsTree self.now }
+    {
+        let items = Vec::from_slice(alloc, &self.marks)?;
+        Ok(Marks { items })
+    }
+
+    /// The segments are printed as a changed copy says.
+    pub fn set_marks(&mut self, marks: &Marks)
+        requires { length marks.now ≡ length self.old.parts }
+        ensures { self.new ≡ record self.old { marks = marks.now } }
+    {
+        self.marks.copy_from_slice(&marks.items);
     }
 
     /// Gives a segment its bytes, and the flags under which they were printed.

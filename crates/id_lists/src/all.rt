@@ -1,4 +1,4 @@
-ghost use Rattle.std.specs.Prelude.{◌≡◌, ◌+◌, ◌<◌, ◌^◌, length, OnOk, OnErr};
+ghost use Rattle.std.specs.Prelude.{◌≡◌, ◌+◌, ◌<◌, ◌^◌, length, IfOk, OnOk, OnErr};
 
 use crate::linking;
 use crate::links::Links;
@@ -80,7 +80,8 @@ impl IdLists {
 
     /// How many ids were made: the number that the next one gets.
     pub fn id_count(&self) -> u32
-        ensures { result ≡ self.now.ids }
+        ensures count { result ≡ self.now.ids }
+        ensures lists { AreLists self.now }
     {
         self.links.next.len() as u32
     }
@@ -148,5 +149,22 @@ impl IdLists {
         ensures { result ≡ home_of id self.now.lists }
     {
         linking::home(&self.links, id)
+    }
+
+    /// The same lists, with as much room.
+    pub fn copy(&self, alloc: Global) -> Result<IdLists, OutOfMemory>
+        ensures { IfOk result (λ copy. copy ≡ self.now) }
+    {
+        let links = linking::copy_links(
+            alloc,
+            &self.links,
+            self.spare_lists as usize,
+            self.spare_ids as usize,
+        )?;
+        Ok(IdLists {
+            links,
+            spare_lists: self.spare_lists,
+            spare_ids: self.spare_ids,
+        })
     }
 }

@@ -1,6 +1,6 @@
 //! Edits of the links between ids.
 
-ghost use Rattle.std.specs.Prelude.{◌≡◌, ◌<◌, ◌≤◌, ◌+◌, ℕ, List, Option, [], ◌∷◌, ◌++◌, None, Some, OnOk, OnErr, length, slice_set, vec_capacity};
+ghost use Rattle.std.specs.Prelude.{◌≡◌, ◌<◌, ◌≤◌, ◌+◌, ℕ, List, Option, [], ◌∷◌, ◌++◌, None, Some, IfOk, OnOk, OnErr, length, slice_set, vec_capacity};
 ghost use Rattle.id_lists.specs.Linked.{AreSameLinks, HasRoom, IsAppended, IsIdAdded, IsListAdded, IsRemoved, IsRoomMade, IsSameRoom, IsUnlinked, link_at, set_if, set_unless};
 
 use crate::links::Links;
@@ -154,4 +154,37 @@ pub(crate) fn home(links: &Links, id: u32) -> Option<u32>
     ensures { result ≡ link_at links.now.home.items id }
 {
     link(&links.home, id)
+}
+
+/// The same items, with room for so many more.
+fn copy_items(
+    alloc: Global,
+    items: &[Option<u32>],
+    more: usize,
+) -> Result<Vec<Option<u32>>, OutOfMemory>
+    ensures items { IfOk result (λ v. v.items ≡ items.now) }
+    ensures room { IfOk result (λ v. length items.now + more ≤ vec_capacity v) }
+{
+    let mut copy = Vec::from_slice(alloc, items)?;
+    copy.reserve(more)?;
+    Ok(copy)
+}
+
+/// The same links, with room for so many lists and ids more.
+pub(crate) fn copy_links(
+    alloc: Global,
+    links: &Links,
+    lists: usize,
+    ids: usize,
+) -> Result<Links, OutOfMemory>
+    ensures same { IfOk result (λ copy. AreSameLinks links.now copy) }
+    ensures room { IfOk result (λ copy. IsRoomMade lists ids links.now copy) }
+{
+    Ok(Links {
+        first: copy_items(alloc, &links.first, lists)?,
+        last: copy_items(alloc, &links.last, lists)?,
+        previous: copy_items(alloc, &links.previous, ids)?,
+        next: copy_items(alloc, &links.next, ids)?,
+        home: copy_items(alloc, &links.home, ids)?,
+    })
 }

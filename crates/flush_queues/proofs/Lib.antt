@@ -1,0 +1,5 @@
+mod OutputLemmas
+mod KidsLemmas
+mod QueuesLemmas
+mod PrintingLemmas
+mod UnitLemmas
