@@ -17,7 +17,7 @@ use Rattle.document_machine.specs.Views.{View, view_of}
 use Rattle.document_machine.specs.declared.fault.MachineFault.{MachineFault}
 use Rattle.document_machine.specs.declared.fault.MachineFault.TheVariants as fault
 use Rattle.document_machine.specs.declared.view.View.{View as Seen}
-use Rattle.fizz_cli.specs.Documents.{IsDocument}
+use Rattle.page_laws.specs.PrintedDocuments.{IsDocument}
 use Rattle.fizz_cli.specs.PageFiles.{RefusesPageBytes, ShowsDocument, StaysPending}
 use Rattle.fizz_cli.specs.Feeding.{IsFedCause, IsPendingView, fault_of}
 use Rattle.fizz_cli.specs.Steps.{AcceptsOrRefuses}
@@ -151,7 +151,7 @@ seen_whole machine prefix bytes view kept s = record {
 pub shows : (prefix bytes : List ℕ) (view : Seen) (nodes : List DocNode) (out : List ℕ) → SeesWhole (nothing_run prefix) bytes view → settled_of (view_of_parts view.parts) ≡ Some nodes →
     out ≡ printed_nodes nodes → ShowsDocument prefix bytes out
 shows prefix bytes view nodes out s settled printed =
-    (nodes, record { built = s.built; whole = s.run; settled = ap settled_of (sym s.is) ∙ settled }, printed)
+    (nodes, record { built = s.built; run = s.run; settled = ap settled_of (sym s.is) ∙ settled }, printed)
 
 -- what is pending in the view is pending in the page
 pub pending_page : (prefix bytes : List ℕ) (view : Seen) (found : PageFault) → SeesWhole (nothing_run prefix) bytes view → IsPendingView (view_of_parts view.parts) found →
@@ -180,14 +180,14 @@ unsettled n a b some h =
 
 not_pending : (prefix : List ℕ) → MachineLaws prefix → (bytes : List ℕ) (nodes : List DocNode) (count : ℕ) → IsDocument prefix bytes nodes → StaysPending prefix bytes count → ⊥
 not_pending prefix laws bytes nodes count d p =
-    let same : p.built ≡ d.built = laws.one p.built d.built bytes p.whole.run d.whole.run in
+    let same : p.built ≡ d.built = laws.one p.built d.built bytes p.whole.run d.run.run in
     unsettled (number_of is_pending (view_of prefix d.built.dom.forest)) (nodes_of (view_of prefix d.built.dom.forest)) nodes
     (subst (λ (b : PageState). number_of is_pending (view_of prefix b.dom.forest) ≢ 0) same p.some) d.settled
 
 pub shown_sound : (prefix : List ℕ) → MachineLaws prefix → (bytes out : List ℕ) (refusal : PageFault) → ShowsDocument prefix bytes out → RefusesPageBytes prefix bytes refusal → ⊥
-shown_sound prefix laws bytes out (Html at) s (inl f) = laws.sound s.1.built bytes s.1.whole.run (fault.Html at) f
-shown_sound prefix laws bytes out (Html at) s (inr e) = laws.whole s.1.built bytes at s.1.whole e
-shown_sound prefix laws bytes out (UnknownFunction at) s f = laws.sound s.1.built bytes s.1.whole.run (fault.UnknownFunction at) f
-shown_sound prefix laws bytes out (NoSuchId at id) s f = laws.sound s.1.built bytes s.1.whole.run (fault.NoSuchId at id) f
-shown_sound prefix laws bytes out (NotBoundary at) s f = laws.sound s.1.built bytes s.1.whole.run (fault.NotBoundary at) f
+shown_sound prefix laws bytes out (Html at) s (inl f) = laws.sound s.1.built bytes s.1.run.run (fault.Html at) f
+shown_sound prefix laws bytes out (Html at) s (inr e) = laws.whole s.1.built bytes at s.1.run e
+shown_sound prefix laws bytes out (UnknownFunction at) s f = laws.sound s.1.built bytes s.1.run.run (fault.UnknownFunction at) f
+shown_sound prefix laws bytes out (NoSuchId at id) s f = laws.sound s.1.built bytes s.1.run.run (fault.NoSuchId at id) f
+shown_sound prefix laws bytes out (NotBoundary at) s f = laws.sound s.1.built bytes s.1.run.run (fault.NotBoundary at) f
 shown_sound prefix laws bytes out (StillPending count) s p = not_pending prefix laws bytes s.0 count s.1 p

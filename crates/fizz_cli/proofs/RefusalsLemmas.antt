@@ -4,7 +4,6 @@ use Rattle.std.proofs.lemmas.Bool.{cases_lt}
 use Rattle.std.proofs.lemmas.List.{take_all}
 use Rattle.std.specs.Str.{IsUtf8, IsValidUpTo}
 use Rattle.fizz_outside.specs.FileContents.{Contents}
-use Rattle.dom_forest.specs.declared.document.DocNode.{DocNode}
 use Rattle.document_machine.specs.Running.{PageState, at_first}
 use Rattle.document_machine.specs.Documents.{Runs}
 use Rattle.document_machine.specs.Faults.{EndsEarly, HasMachineFault}
@@ -12,23 +11,19 @@ use Rattle.document_machine.specs.Settled.{bounded_count, is_pending}
 use Rattle.document_machine.specs.Views.{view_of}
 use Rattle.document_machine.specs.declared.fault.MachineFault.{MachineFault}
 use Rattle.document_machine.specs.declared.fault.MachineFault.TheVariants as fault
-use Rattle.fizz_cli.specs.AppFiles.{AcceptsApp, RefusesApp, RefusesAppBytes, most_app_bytes}
 use Rattle.fizz_cli.specs.PageFiles.{RefusesPage, RefusesPageBytes, ShowsFile, StaysPending, most_page_bytes}
 use Rattle.fizz_cli.specs.ProgramFiles.{RefusesProgramBytes, most_program_bytes}
-use Rattle.fizz_cli.specs.Rendering.{Means, RefusesRender}
 use Rattle.settle_script.specs.Scripts.{IsScript, script_of}
 use Rattle.settle_script.specs.declared.event.Event.{Event}
 use Rattle.settle_script.specs.declared.fault.ScriptFault as settle
 use Rattle.settle_script.specs.declared.fault.ScriptFault.TheVariants as settled
 use Rattle.serde_json.specs.Read.{read}
-use Rattle.fizz_cli.specs.ScriptFiles.{AcceptsScript, RefusesLines, RefusesScript, RefusesScriptBytes, most_script_bytes}
-use Rattle.fizz_cli.specs.Serving.{Accepts, Refuses}
-use Rattle.fizz_cli.specs.Source.{IsPageFile}
+use Rattle.fizz_cli.specs.ScriptFiles.{AcceptsScript, RefusesScript, RefusesScriptBytes, most_script_bytes}
+use Rattle.fizz_cli.specs.Serving.{Refuses}
+use Rattle.fizz_cli.specs.Sources.{RefusesSources}
 use Rattle.fizz_cli.specs.declared.command.Command.{Command}
 use Rattle.fizz_cli.specs.declared.command.Command.TheVariants.{Render, Show, Tree}
-use Rattle.fizz_cli.specs.declared.refusal.AppFault.{AppFault}
-use Rattle.fizz_cli.specs.declared.refusal.AppFault.TheVariants.{NotUtf8, Unbuilt}
-use Rattle.fizz_cli.specs.declared.refusal.FileFault.TheVariants.{App, Program, Script, Page}
+use Rattle.fizz_cli.specs.declared.refusal.FileFault.TheVariants.{Program, Script, Page}
 use Rattle.fizz_cli.specs.declared.refusal.PageFault.{PageFault}
 use Rattle.fizz_cli.specs.declared.refusal.PageFault.TheVariants.{Html, UnknownFunction, NoSuchId, NotBoundary, StillPending}
 use Rattle.fizz_cli.specs.declared.refusal.Refusal.{Refusal}
@@ -37,20 +32,11 @@ use Rattle.fizz_cli.specs.declared.refusal.ScriptFault.TheVariants as script
 use Rattle.fizz_cli.proofs.Pages.{MachineLaws, shown_sound}
 use Rattle.fizz_cli.proofs.StepsLemmas.{file_excludes, one_file_refusal, refuses_quiet, same_bytes as same_contents}
 
--- component files
+-- UTF-8
 
 pub not_cut : (bytes : List ℕ) (valid : ℕ) → IsUtf8 bytes → IsValidUpTo bytes valid → ⊥
 not_cut bytes valid utf8 cut =
     cut.longest (length bytes) cut.short (subst IsUtf8 (sym (take_all (length bytes) bytes (omega arith))) utf8)
-
-app_sound : (bytes : List ℕ) (nodes : List DocNode) (f : AppFault) → IsUtf8 bytes → IsPageFile bytes nodes → RefusesAppBytes bytes f → ⊥
-app_sound bytes nodes (NotUtf8 valid) utf8 means r = not_cut bytes valid utf8 r
-app_sound bytes nodes Unbuilt utf8 means r = r.1 nodes means
-
-pub app_excludes : (name : List ℕ) (file : Option (List ℕ)) (nodes : List DocNode) (refusal : Refusal) → AcceptsApp file nodes →
-    RefusesApp ⊥ name file refusal → ⊥
-app_excludes name file nodes refusal a r =
-    file_excludes App RefusesAppBytes most_app_bytes name file a.bytes refusal a.is_file (λ f. app_sound a.bytes nodes f a.utf8 a.means) r
 
 pub same_valid : (bytes : List ℕ) (m n : ℕ) → IsValidUpTo bytes m → IsValidUpTo bytes n → m ≡ n
 same_valid bytes m n p q = by_order (cases_lt m n) (cases_lt n m)
@@ -59,15 +45,6 @@ same_valid bytes m n p q = by_order (cases_lt m n) (cases_lt n m)
     by_order (inl less) more = absurd (p.longest n less q.front)
     by_order (inr le) (inl more) = absurd (q.longest m more p.front)
     by_order (inr le) (inr ge) = omega (arith, le, ge)
-
-one_app_fault : (bytes : List ℕ) (a b : AppFault) → RefusesAppBytes bytes a → RefusesAppBytes bytes b → a ≡ b
-one_app_fault bytes (NotUtf8 m) (NotUtf8 n) p q = ap NotUtf8 (same_valid bytes m n p q)
-one_app_fault bytes (NotUtf8 m) Unbuilt p q = absurd (not_cut bytes m q.0 p)
-one_app_fault bytes Unbuilt (NotUtf8 n) p q = absurd (not_cut bytes n p.0 q)
-one_app_fault bytes Unbuilt Unbuilt p q = refl
-
-one_app : (name : List ℕ) (file : Option (List ℕ)) (a b : Refusal) → RefusesApp ⊥ name file a → RefusesApp ⊥ name file b → a ≡ b
-one_app name file a b p q = one_file_refusal App RefusesAppBytes most_app_bytes name file a b one_app_fault p q
 
 -- scripts
 
@@ -147,10 +124,6 @@ one_lines file a b p q =
     let same : q.bytes ≡ p.bytes = same_contents file q.bytes p.bytes q.is_file.found p.is_file.found in
     same_results _ a b p.is_script.lines (ap (λ (bs : List ℕ). script_of (read bs)) (sym same) ∙ q.is_script.lines)
 
-pub lines_exclude : (name : List ℕ) (file : Option (List ℕ)) (refusal : Refusal) → AcceptsScript file [] → (lines : List Event) →
-    AcceptsScript file lines → RefusesLines name lines refusal → ⊥
-lines_exclude name file refusal empty lines a r = r.0 (one_lines file lines [] a empty)
-
 pub one_script : (name : List ℕ) (file : Option (List ℕ)) (a b : Refusal) → RefusesScript ⊥ name file a → RefusesScript ⊥ name file b → a ≡ b
 one_script name file a b p q = one_file_refusal Script RefusesScriptBytes most_script_bytes name file a b one_script_fault p q
 
@@ -217,34 +190,19 @@ one_page_refusal prefix laws ones name file a b p q =
 
 -- commands
 
-pub render_excludes : (at : Contents) (app script_name : List ℕ) (nodes : List DocNode) (refusal : Refusal) → Means at app script_name nodes →
-    RefusesRender at app script_name ⊥ refusal → ⊥
-render_excludes at app script_name nodes refusal m (inl r) = app_excludes app (at app) nodes refusal m.is_app r
-render_excludes at app script_name nodes refusal m (inr (n, a, inl r)) = script_excludes script_name (at script_name) [] refusal m.is_script r
-render_excludes at app script_name nodes refusal m (inr (n, a, inr (lines, b, r))) = lines_exclude script_name (at script_name) refusal m.is_script lines b r
-
-pub one_render : (at : Contents) (app script_name : List ℕ) (a b : Refusal) → RefusesRender at app script_name ⊥ a →
-    RefusesRender at app script_name ⊥ b → a ≡ b
-one_render at app script_name a b (inl p) (inl q) = one_app app (at app) a b p q
-one_render at app script_name a b (inl p) (inr q) = absurd (app_excludes app (at app) q.0 a q.1 p)
-one_render at app script_name a b (inr p) (inl q) = absurd (app_excludes app (at app) p.0 b p.1 q)
-one_render at app script_name a b (inr (m, x, inl p)) (inr (n, y, inl q)) = one_script script_name (at script_name) a b p q
-one_render at app script_name a b (inr (m, x, inl p)) (inr (n, y, inr (l, s, q))) = absurd (script_excludes script_name (at script_name) l a s p)
-one_render at app script_name a b (inr (m, x, inr (l, s, p))) (inr (n, y, inl q)) = absurd (script_excludes script_name (at script_name) l b s q)
-one_render at app script_name a b (inr (m, x, inr (l, s, p))) (inr (n, y, inr (k, t, q))) = p.1 ∙ sym q.1
-
 -- where the files counted no fault, what they hold is the cause
+sources_at_rest : (at : Contents) (app script_name : List ℕ) (faulted : Type 0) (refusal : Refusal) → (faulted → ⊥) →
+    RefusesSources at app script_name faulted refusal → RefusesSources at app script_name ⊥ refusal
+sources_at_rest at app script_name faulted refusal quiet (inl r) =
+    inl (refuses_quiet Program RefusesProgramBytes faulted most_program_bytes app (at app) refusal quiet r)
+sources_at_rest at app script_name faulted refusal quiet (inr (program, a, r)) =
+    inr (program, a, refuses_quiet Script RefusesScriptBytes faulted most_script_bytes script_name (at script_name) refusal quiet r)
+
 pub refuses_at_rest : (at : Contents) (command : Command) (faulted : Type 0) (refusal : Refusal) → (faulted → ⊥) →
     Refuses at command faulted refusal → Refuses at command ⊥ refusal
-refuses_at_rest at (Render app script_name options workers) faulted refusal quiet (inl r) =
-    inl (refuses_quiet App RefusesAppBytes faulted most_app_bytes app (at app) refusal quiet r)
-refuses_at_rest at (Render app script_name options workers) faulted refusal quiet (inr (n, a, inl r)) =
-    inr (n, a, inl (refuses_quiet Script RefusesScriptBytes faulted most_script_bytes script_name (at script_name) refusal quiet r))
-refuses_at_rest at (Render app script_name options workers) faulted refusal quiet (inr (n, a, inr r)) = inr (n, a, inr r)
-refuses_at_rest at (Tree app script_name prefix) faulted refusal quiet (inl r) =
-    inl (refuses_quiet Program RefusesProgramBytes faulted most_program_bytes app (at app) refusal quiet r)
-refuses_at_rest at (Tree app script_name prefix) faulted refusal quiet (inr (n, a, inl r)) =
-    inr (n, a, inl (refuses_quiet Script RefusesScriptBytes faulted most_script_bytes script_name (at script_name) refusal quiet r))
-refuses_at_rest at (Tree app script_name prefix) faulted refusal quiet (inr (n, a, inr r)) = inr (n, a, inr r)
+refuses_at_rest at (Render app script_name options workers) faulted refusal quiet (inl r) = inl (sources_at_rest at app script_name faulted refusal quiet r)
+refuses_at_rest at (Render app script_name options workers) faulted refusal quiet (inr r) = inr r
+refuses_at_rest at (Tree app script_name prefix) faulted refusal quiet (inl r) = inl (sources_at_rest at app script_name faulted refusal quiet r)
+refuses_at_rest at (Tree app script_name prefix) faulted refusal quiet (inr r) = inr r
 refuses_at_rest at (Show file prefix) faulted refusal quiet r =
     refuses_quiet Page (RefusesPageBytes prefix) faulted most_page_bytes file (at file) refusal quiet r

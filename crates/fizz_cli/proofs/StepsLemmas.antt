@@ -142,20 +142,22 @@ pub refused_for : {A F : Type 0} (accepts : List ℕ → A → Type 0) (refuses 
 refused_for {A} {F} accepts refuses given bytes e fault same is r =
     subst (λ (bs : List ℕ). refuses bs fault) same (subst (λ (x : OrMemory F). AcceptsOrRefuses {A = A} (accepts given) (refuses given) (Err x)) is r)
 
--- a step that accepts, and a test of what it accepts that refuses
-pub refuses_next : {A B : Type 0} (accepts : Contents → A → Type 0) (accepted : Contents → B → Type 0)
-    (refuses : Contents → Type 0 → Refusal → Type 0) (next : A → Refusal → Type 0) (files : Change FilesReport) (a : A)
-    (name : List ℕ) (fault : FileFault) (stop : OrMemory Refusal) → ReadsFiles accepts refuses files (Ok a) → next a (File name fault) →
-    IsOrMemory (File name fault) stop →
-    ReadsFiles accepted (λ at faulted. FirstOrNext (refuses at faulted) (accepts at) next) files (Err stop)
-refuses_next {A} {B} accepts accepted refuses next files a name fault stop read r s = record {
+-- a step that reads files, and then one that reads none
+pub reads_then : {A B : Type 0} (accepts : Contents → A → Type 0) (refuses : Contents → Type 0 → Refusal → Type 0)
+    (gives : B → Type 0) (next : A → Refusal → Type 0) (accepted : Contents → B → Type 0) (files : Change FilesReport) (a : A)
+    (result : Result B (OrMemory Refusal)) → ((at : Contents) (b : B) → accepts at a → gives b → accepted at b) →
+    ((name : List ℕ) → next a (CannotRead name) → ⊥) → ReadsFiles accepts refuses files (Ok a) →
+    AcceptsOrRefuses gives (next a) result →
+    ReadsFiles accepted (λ at faulted. FirstOrNext (refuses at faulted) (accepts at) next) files result
+reads_then {A} {B} accepts refuses gives next accepted files a result leads readable read r = record {
   same = read.same;
   later = read.later;
-  told = λ at told. by_cases at _ stop s (read.told at told);
-  untold = λ none other is. absurd (could_read {A = B} name other fault stop (Err stop) s refl is);
+  told = λ at told. by_cases at _ result (read.told at told) r;
+  untold = λ none name is. absurd (readable name (subst (λ (x : Result B (OrMemory Refusal)). AcceptsOrRefuses gives (next a) x) is r));
 }
   where
-    by_cases : (at : Contents) (faulted : Type 0) (stop : OrMemory Refusal) → IsOrMemory (File name fault) stop → accepts at a →
-        AcceptsOrRefuses (accepted at) (FirstOrNext (refuses at faulted) (accepts at) next) (Err stop)
-    by_cases at faulted (Fault refusal) s told = inr (a, told, subst (λ (x : Refusal). next a x) (sym s) r)
-    by_cases at faulted NoMemory s told = tt
+    by_cases : (at : Contents) (faulted : Type 0) (result : Result B (OrMemory Refusal)) → accepts at a →
+        AcceptsOrRefuses gives (next a) result → AcceptsOrRefuses (accepted at) (FirstOrNext (refuses at faulted) (accepts at) next) result
+    by_cases at faulted (Ok b) told r = leads at b told r
+    by_cases at faulted (Err (Fault refusal)) told r = inr (a, told, r)
+    by_cases at faulted (Err NoMemory) told r = tt

@@ -10,10 +10,8 @@ use Rattle.jsx_syntax.specs.declared.fault.Wanted.TheVariants as wanted
 use Rattle.fizz_cli.specs.declared.note.FieldValue.{FieldValue}
 use Rattle.fizz_cli.specs.declared.note.FieldValue.TheVariants.{Number, Words, Steps, Hash}
 use Rattle.fizz_cli.specs.declared.note.Field.{Field}
-use Rattle.fizz_cli.specs.declared.refusal.AppFault.{AppFault}
-use Rattle.fizz_cli.specs.declared.refusal.AppFault.TheVariants as app
 use Rattle.fizz_cli.specs.declared.refusal.FileFault.{FileFault}
-use Rattle.fizz_cli.specs.declared.refusal.FileFault.TheVariants.{TooLong, App, Program, Script, Page}
+use Rattle.fizz_cli.specs.declared.refusal.FileFault.TheVariants.{TooLong, Program, Script, Page}
 use Rattle.fizz_cli.specs.declared.refusal.PageFault.{PageFault}
 use Rattle.fizz_cli.specs.declared.refusal.PageFault.TheVariants as page
 use Rattle.fizz_cli.specs.declared.refusal.ProgramFault.{ProgramFault}
@@ -86,10 +84,6 @@ counted_by label name n = record { label = label; fields = record { name = name;
 abbrev pub row_at : List ℕ → ℕ → Row
 row_at label at = counted_by label (codes "at") at
 
-abbrev pub app_row : AppFault → Row
-app_row (app.NotUtf8 valid) = counted_by (codes "NotUtf8") (codes "valid") valid
-app_row app.Unbuilt = bare (codes "Unbuilt")
-
 -- a row with a place, and a word that says what is wrong there
 abbrev pub row_with : List ℕ → ℕ → List ℕ → List ℕ → Row
 row_with label at name word = record {
@@ -127,6 +121,7 @@ program_row (program.FallbackNotPlain at) = row_at (codes "FallbackNotPlain") at
 program_row program.NoApp = bare (codes "NoApp")
 program_row (program.TooDeep depth) = counted_by (codes "TooDeep") (codes "depth") depth
 program_row (program.TooLarge limit) = counted_by (codes "TooLarge") (codes "limit") limit
+program_row program.Unbuilt = bare (codes "Unbuilt")
 
 abbrev pub script_row : ScriptFault → Row
 script_row script.NotJson = bare (codes "NotJson")
@@ -155,7 +150,6 @@ page_row (page.StillPending count) = counted_by (codes "StillPending") (codes "c
 
 abbrev pub row_of : FileFault → Row
 row_of (TooLong most) = counted_by (codes "TooLong") (codes "most") most
-row_of (App fault) = app_row fault
 row_of (Program fault) = program_row fault
 row_of (Script fault) = script_row fault
 row_of (Page fault) = page_row fault

@@ -8,7 +8,7 @@ use Rattle.document_machine.specs.Faults.{HasMachineFault, EndsEarly}
 use Rattle.document_machine.specs.Settled.{bounded_count, is_pending, number_of}
 use Rattle.document_machine.specs.Views.{view_of}
 use Rattle.document_machine.specs.declared.fault.MachineFault.TheVariants as fault
-use Rattle.fizz_cli.specs.Documents.{IsDocument}
+use Rattle.page_laws.specs.PrintedDocuments.{IsDocument}
 use Rattle.fizz_cli.specs.Steps.{IsFile, RefusesFile}
 use Rattle.fizz_cli.specs.declared.refusal.FileFault.TheVariants.{Page}
 use Rattle.fizz_cli.specs.declared.refusal.PageFault.{PageFault}

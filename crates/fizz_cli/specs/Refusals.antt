@@ -31,10 +31,10 @@ plain_program (program.FallbackNotPlain at) = program.FallbackNotPlain at
 plain_program program.NoApp = program.NoApp
 plain_program (program.TooDeep depth) = program.TooDeep depth
 plain_program (program.TooLarge limit) = program.TooLarge limit
+plain_program program.Unbuilt = program.Unbuilt
 
 abbrev pub plain_fault : FileFault → FileFault
 plain_fault (fault.TooLong most) = fault.TooLong most
-plain_fault (fault.App f) = fault.App f
 plain_fault (fault.Program f) = fault.Program (plain_program f)
 plain_fault (fault.Script f) = fault.Script f
 plain_fault (fault.Page f) = fault.Page f

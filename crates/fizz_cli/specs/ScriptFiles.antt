@@ -1,19 +1,18 @@
--- The step that reads a settling script, and the one that refuses lines.
-use Rattle.std.specs.Prelude.{◌≡◌, ◌≢◌, ℕ, List, [], Option}
+-- The step that reads a settling script.
+use Rattle.std.specs.Prelude.{ℕ, List, Option}
 use Rattle.settle_script.specs.Scripts.{IsScript, IsFaultOf}
 use Rattle.settle_script.specs.declared.event.Event.{Event}
 use Rattle.settle_script.specs.declared.fault.ScriptFault.TheVariants as settle
-use Rattle.fizz_cli.specs.Steps.{FirstOrNext, IsFile, RefusesFile}
+use Rattle.fizz_cli.specs.Steps.{IsFile, RefusesFile}
 use Rattle.fizz_cli.specs.declared.refusal.FileFault.TheVariants.{Script}
 use Rattle.fizz_cli.specs.declared.refusal.Refusal.{Refusal}
-use Rattle.fizz_cli.specs.declared.refusal.Refusal.TheVariants.{File}
 use Rattle.fizz_cli.specs.declared.refusal.ScriptFault.{ScriptFault}
 use Rattle.fizz_cli.specs.declared.refusal.ScriptFault.TheVariants.{NotJson, TooManyEvents, NotEvent, DigestTooLong, BadValue, SettledTwice, Unbuilt}
 
 abbrev pub most_script_bytes : ℕ
 most_script_bytes = 16777216
 
--- what the bytes are refused for
+-- What the bytes are refused for. `Unbuilt` is none of their faults: `render` serves no script with a line yet.
 abbrev pub RefusesScriptBytes : List ℕ → ScriptFault → Type 0
 RefusesScriptBytes bytes NotJson = IsFaultOf bytes settle.NotJson
 RefusesScriptBytes bytes (TooManyEvents count) = IsFaultOf bytes (settle.TooManyEvents count)
@@ -31,12 +30,3 @@ pub record AcceptsScript (file : Option (List ℕ)) (lines : List Event) : Type 
 
 abbrev pub RefusesScript : Type 0 → List ℕ → Option (List ℕ) → Refusal → Type 0
 RefusesScript faulted name file refusal = RefusesFile Script RefusesScriptBytes faulted most_script_bytes name file refusal
-
--- A script with a line isn't served yet.
-abbrev pub RefusesLines : List ℕ → List Event → Refusal → Type 0
-RefusesLines name lines refusal = (lines ≢ []) × (refusal ≡ File name (Script Unbuilt))
-
--- The script is refused, or it is accepted and has a line.
-abbrev pub RefusesEmptyScript : Type 0 → List ℕ → Option (List ℕ) → Refusal → Type 0
-RefusesEmptyScript faulted name file refusal =
-    FirstOrNext (RefusesScript faulted name file) (AcceptsScript file) (RefusesLines name) refusal

@@ -25,7 +25,12 @@ pub(crate) fn serve<F: Files, S: Sink>(
         (sink_change (S.contents out.old) (S.faults out.old) (S.contents out.new) (S.faults out.new)) result }
 {
     match command {
-        Command::Render { app, script, .. } => render::serve(alloc, app, script, files, out),
+        Command::Render {
+            app,
+            script,
+            options,
+            ..
+        } => render::serve(alloc, app, script, options, files, out),
         Command::Show { file, prefix } => show::serve(alloc, file, prefix, files, out),
         Command::Tree {
             app,

@@ -4,15 +4,16 @@ ghost use Rattle.std.specs.Prelude.{◌≡◌, List, Option, ℕ};
 ghost use Rattle.std.specs.Str.{IsUtf8};
 ghost use Rattle.dom_forest.specs.declared.document.DocNode.{DocNode as Node};
 ghost use Rattle.fizz_outside.specs.FileContents.{Contents};
+ghost use Rattle.jsx_syntax.specs.declared.file.File.{File as Program};
+ghost use Rattle.page_laws.specs.PrintedDocuments.{IsDocument};
 ghost use Rattle.settle_script.specs.declared.event.Event.{Event};
-ghost use Rattle.fizz_cli.specs.AppFiles.{AcceptsApp, RefusesApp};
-ghost use Rattle.fizz_cli.specs.Documents.{IsDocument};
 ghost use Rattle.fizz_cli.specs.PageFiles.{RefusesPage, ShowsFile};
+ghost use Rattle.fizz_cli.specs.ProgramFiles.{AcceptsProgram, RefusesProgram};
 ghost use Rattle.fizz_cli.specs.Refusals.{plain_refusal};
+ghost use Rattle.fizz_cli.specs.Rendering.{RefusesRender, RendersFiles};
 ghost use Rattle.fizz_cli.specs.ScriptFiles.{AcceptsScript, RefusesScript};
 ghost use Rattle.fizz_cli.specs.Trees.{RefusesTree, ShowsTree};
 ghost use Rattle.fizz_cli.specs.Serving.{Accepts, Refuses};
-ghost use Rattle.fizz_cli.specs.Source.{IsPageFile};
 ghost use Rattle.fizz_cli.specs.declared.refusal.Refusal.{Refusal as Cause};
 
 use crate::command::Command;
@@ -20,11 +21,6 @@ use document_machine::laws_of_documents;
 use jsx_check::one_check_fault;
 use jsx_lex::{one_fault, one_token_list, tokens_or_fault};
 use jsx_syntax::one_file;
-
-/// A law of literal pages: a file means one document at most.
-pub fn one_page()
-    ensures { (file : List ℕ) (a b : List Node) → IsPageFile file a → IsPageFile file b → a ≡ b }
-{}
 
 /// A law of documents: bytes are one document at most.
 pub fn one_document()
@@ -36,13 +32,18 @@ pub fn one_document()
 
 /// Laws of the steps that read a file: what is accepted is not refused.
 pub fn laws_of_steps()
-    ensures app { (name : List ℕ) (file : Option (List ℕ)) (nodes : List Node) (cause : Cause) →
-        AcceptsApp file nodes → RefusesApp ⊥ name file cause → ⊥ }
+    ensures program { (name : List ℕ) (file : Option (List ℕ)) (program : Program) (cause : Cause) →
+        AcceptsProgram file program → RefusesProgram ⊥ name file cause → ⊥ }
     ensures script { (name : List ℕ) (file : Option (List ℕ)) (lines : List Event) (cause : Cause) →
         AcceptsScript file lines → RefusesScript ⊥ name file cause → ⊥ }
     ensures page { (prefix name : List ℕ) (file : Option (List ℕ)) (out : List ℕ) (cause : Cause) → IsUtf8 prefix →
         ShowsFile prefix file out → RefusesPage prefix ⊥ name file cause → ⊥ }
 {
+    one_token_list();
+    one_fault();
+    tokens_or_fault();
+    one_file();
+    one_check_fault();
     laws_of_documents();
 }
 
@@ -54,18 +55,23 @@ pub fn laws_of_refusals(command: &Command)
         Refuses at command.now ⊥ a → Refuses at command.now ⊥ b → plain_refusal a ≡ plain_refusal b }
 {
     match command {
-        Command::Render { .. } => {}
+        Command::Render { .. } => laws_of_programs(),
         Command::Show { prefix, .. } => laws_of_pages(prefix.as_str()),
-        Command::Tree { .. } => laws_of_trees(),
+        Command::Tree { .. } => laws_of_programs(),
     }
 }
 
-/// The same of `tree`.
-fn laws_of_trees()
-    ensures accepted { (at : Contents) (app script prefix out : List ℕ) (cause : Cause) →
+/// The same of `tree` and of `render`.
+fn laws_of_programs()
+    ensures shown { (at : Contents) (app script prefix out : List ℕ) (cause : Cause) →
         ShowsTree at app script prefix out → RefusesTree at app script prefix ⊥ cause → ⊥ }
-    ensures one { (at : Contents) (app script prefix : List ℕ) (a b : Cause) →
+    ensures one_tree { (at : Contents) (app script prefix : List ℕ) (a b : Cause) →
         RefusesTree at app script prefix ⊥ a → RefusesTree at app script prefix ⊥ b →
+        plain_refusal a ≡ plain_refusal b }
+    ensures rendered { (at : Contents) (app script prefix out : List ℕ) (cause : Cause) →
+        RendersFiles at app script prefix out → RefusesRender at app script prefix ⊥ cause → ⊥ }
+    ensures one_render { (at : Contents) (app script prefix : List ℕ) (a b : Cause) →
+        RefusesRender at app script prefix ⊥ a → RefusesRender at app script prefix ⊥ b →
         plain_refusal a ≡ plain_refusal b }
 {
     one_token_list();

@@ -5,18 +5,17 @@ mod command;
 mod commands;
 mod laws;
 mod note;
-mod page;
 mod refusal;
 mod sending;
 mod steps;
+mod still;
 mod stop;
 mod top;
 mod words;
 
 pub use command::{Command, Options};
-pub use laws::{laws_of_refusals, laws_of_steps, one_document, one_page};
-pub use page::page_html;
-pub use refusal::{AppFault, FileFault, PageFault, ProgramFault, Refusal, ScriptFault};
+pub use laws::{laws_of_refusals, laws_of_steps, one_document};
+pub use refusal::{FileFault, PageFault, ProgramFault, Refusal, ScriptFault};
 pub use top::{fizz, fizz_inline};
 pub use words::{WordsFault, read_words};
 

@@ -4,9 +4,9 @@ ghost use Rattle.std.specs.Prelude.{◌≡◌, ◌++◌, ◌<◌, IfOk, OnOk, co
 ghost use Rattle.std.specs.List.{flat_map};
 ghost use Rattle.std.specs.Fmt.{decimal};
 ghost use Rattle.std.specs.Char.{digit_char};
-ghost use Rattle.fizz_cli.specs.Notes.{after_dot, app_row, counted_by, steps_text, entry_of, entry_text, kind_word, line_of, note_of, number, page_row, program_row, row_at, row_of, row_text, row_with, wanted_word, script_row, two_digits, value_of, value_text, words};
+ghost use Rattle.fizz_cli.specs.Notes.{after_dot, counted_by, steps_text, entry_of, entry_text, kind_word, line_of, note_of, number, page_row, program_row, row_at, row_of, row_text, row_with, wanted_word, script_row, two_digits, value_of, value_text, words};
 
-use crate::refusal::{AppFault, FileFault, PageFault, ProgramFault, Refusal, ScriptFault};
+use crate::refusal::{FileFault, PageFault, ProgramFault, Refusal, ScriptFault};
 use jsx_lex::LexKind;
 use jsx_syntax::Wanted;
 use std::alloc::{AllocError, Global};
@@ -82,26 +82,9 @@ fn push_fault(alloc: Global, note: &mut Vec<u8>, fault: &FileFault) -> Result<()
         FileFault::TooLong { most } => {
             push_row(alloc, note, "TooLong", &[count_field("most", *most as u64)])
         }
-        FileFault::App(fault) => push_app_fault(alloc, note, fault),
         FileFault::Program(fault) => push_program_fault(alloc, note, fault),
         FileFault::Script(fault) => push_script_fault(alloc, note, fault),
         FileFault::Page(fault) => push_page_fault(alloc, note, fault),
-    }
-}
-
-fn push_app_fault(alloc: Global, note: &mut Vec<u8>, fault: &AppFault) -> Result<(), AllocError>
-    ensures { OnOk result (note.new.items ≡ note.old.items ++ row_text (app_row fault.now)) }
-{
-    match fault {
-        AppFault::NotUtf8 { valid } => {
-            push_row(
-                alloc,
-                note,
-                "NotUtf8",
-                &[count_field("valid", *valid as u64)],
-            )
-        }
-        AppFault::Unbuilt => push_row(alloc, note, "Unbuilt", &[]),
     }
 }
 
@@ -113,56 +96,50 @@ fn push_program_fault(
     ensures { OnOk result (note.new.items ≡ note.old.items ++ row_text (program_row fault.now)) }
 {
     match fault {
-        ProgramFault::NotUtf8 { valid } => push_count(
-            alloc,
-            note,
-            "NotUtf8",
-            "valid",
-            *valid as u64,
-        ),
-        ProgramFault::LexFault { at, kind } => {
-            push_kind(alloc, note, "LexFault", *at, "kind", kind_word(*kind))
-        }
-        ProgramFault::SyntaxFault { at, wanted } => {
-            push_kind(
-                alloc,
-                note,
-                "SyntaxFault",
-                *at,
-                "wanted",
-                wanted_word(*wanted),
-            )
-        }
+        ProgramFault::NotUtf8 { valid } => push_length(alloc, note, "NotUtf8", "valid", *valid),
+        ProgramFault::LexFault { at, kind } => push_lex_fault(alloc, note, *at, *kind),
+        ProgramFault::SyntaxFault { at, wanted } => push_syntax_fault(alloc, note, *at, *wanted),
         ProgramFault::TooManyComponents { count } => {
-            push_count(alloc, note, "TooManyComponents", "count", *count as u64)
+            push_count(alloc, note, "TooManyComponents", "count", *count)
         }
         ProgramFault::UnknownName { at } => push_placed(alloc, note, "UnknownName", *at),
         ProgramFault::UnknownElement { at } => push_placed(alloc, note, "UnknownElement", *at),
         ProgramFault::UnknownAttribute { at } => push_placed(alloc, note, "UnknownAttribute", *at),
         ProgramFault::TwiceDefined { at } => push_placed(alloc, note, "TwiceDefined", *at),
-        ProgramFault::UsedBeforeDefined { at } => push_placed(
-            alloc,
-            note,
-            "UsedBeforeDefined",
-            *at,
-        ),
+        ProgramFault::UsedBeforeDefined { at } => {
+            push_placed(alloc, note, "UsedBeforeDefined", *at)
+        }
         ProgramFault::FallbackNotPlain { at } => push_placed(alloc, note, "FallbackNotPlain", *at),
         ProgramFault::NoApp => push_row(alloc, note, "NoApp", &[]),
-        ProgramFault::TooDeep { depth } => push_count(
-            alloc,
-            note,
-            "TooDeep",
-            "depth",
-            *depth as u64,
-        ),
-        ProgramFault::TooLarge { limit } => push_count(
-            alloc,
-            note,
-            "TooLarge",
-            "limit",
-            *limit as u64,
-        ),
+        ProgramFault::TooDeep { depth } => push_count(alloc, note, "TooDeep", "depth", *depth),
+        ProgramFault::TooLarge { limit } => push_count(alloc, note, "TooLarge", "limit", *limit),
+        ProgramFault::Unbuilt => push_row(alloc, note, "Unbuilt", &[]),
     }
+}
+
+fn push_lex_fault(
+    alloc: Global,
+    note: &mut Vec<u8>,
+    at: usize,
+    kind: LexKind,
+) -> Result<(), AllocError>
+    ensures { OnOk result (note.new.items ≡ note.old.items
+        ++ row_text (row_with (codes "LexFault") at (codes "kind") (kind_word kind))) }
+{
+    push_kind(alloc, note, "LexFault", at, "kind", kind_word(kind))
+}
+
+fn push_syntax_fault(
+    alloc: Global,
+    note: &mut Vec<u8>,
+    at: usize,
+    wanted: Wanted,
+) -> Result<(), AllocError>
+    ensures { OnOk result (note.new.items ≡ note.old.items
+        ++ row_text (row_with (codes "SyntaxFault") at (codes "wanted") (wanted_word wanted))) }
+{
+    let word = wanted_word(wanted);
+    push_kind(alloc, note, "SyntaxFault", at, "wanted", word)
 }
 
 fn kind_word(kind: LexKind) -> &'static str
@@ -261,12 +238,26 @@ fn push_count(
     note: &mut Vec<u8>,
     label: &str,
     name: &'static str,
-    count: u64,
+    count: u32,
 ) -> Result<(), AllocError>
     ensures { OnOk result (note.new.items
         ≡ note.old.items ++ row_text (counted_by label.now name.now count)) }
 {
-    push_row(alloc, note, label, &[count_field(name, count)])
+    push_row(alloc, note, label, &[count_field(name, u64::from(count))])
+}
+
+/// A label with a number of bytes.
+fn push_length(
+    alloc: Global,
+    note: &mut Vec<u8>,
+    label: &str,
+    name: &'static str,
+    length: usize,
+) -> Result<(), AllocError>
+    ensures { OnOk result (note.new.items
+        ≡ note.old.items ++ row_text (counted_by label.now name.now length)) }
+{
+    push_row(alloc, note, label, &[count_field(name, length as u64)])
 }
 
 /// A label with a place, and with a word that says what is wrong there.

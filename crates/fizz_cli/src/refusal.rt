@@ -29,19 +29,9 @@ pub enum Refusal {
 pub enum FileFault {
     /// There are more bytes than these.
     TooLong { most: usize },
-    App(AppFault),
     Program(ProgramFault),
     Script(ScriptFault),
     Page(PageFault),
-}
-
-/// What the bytes of a component file are refused for.
-#[derive(Debug, Drop)]
-pub enum AppFault {
-    /// They aren't UTF-8. `valid` is the length of their longest prefix that is.
-    NotUtf8 { valid: usize },
-    /// They have a form that isn't served.
-    Unbuilt,
 }
 
 /// What the bytes of a component file are refused for. `at` is a place in them.
@@ -73,6 +63,8 @@ pub enum ProgramFault {
     TooDeep { depth: u32 },
     /// With its script, the page weighs more than this.
     TooLarge { limit: u32 },
+    /// `render` doesn't serve the page yet: it holds more than elements and texts.
+    Unbuilt,
 }
 
 /// What the bytes of a settling script are refused for. `index` is the number of a line, from 0.
@@ -90,7 +82,7 @@ pub enum ScriptFault {
     BadValue { index: u32 },
     /// The line `first` has settled the name.
     SettledTwice { index: u32, first: u32 },
-    /// They have a form that isn't served.
+    /// `render` doesn't serve a script with a line yet.
     Unbuilt,
 }
 

@@ -1,26 +1,21 @@
 //! `tree`: the final document of a component file under a settling script.
 
-ghost use Rattle.std.specs.Prelude.{◌≡◌, ◌≤◌, IfErr, IfOk};
+ghost use Rattle.std.specs.Prelude.{◌≡◌};
 ghost use Rattle.jsx_syntax.specs.Rules.{IsApp};
-ghost use Rattle.jsx_value.specs.Weights.{IsTooLarge, most_weight, page_weight};
-ghost use Rattle.settled_tree.specs.Forests.{forest_of};
 ghost use Rattle.fizz_cli.specs.Ends.{Serves};
 ghost use Rattle.fizz_cli.specs.Reports.{files_change, sink_change};
 ghost use Rattle.fizz_cli.specs.Steps.{AcceptsOrRefuses, ReadsFiles};
 ghost use Rattle.fizz_cli.specs.Trees.{PrintsPage, RefusesTree, RefusesTreePage, ShowsTree, settled_page};
 ghost use Rattle.fizz_cli.specs.declared.command.Command.TheVariants.{Tree};
 
-use crate::refusal::{FileFault, ProgramFault, Refusal};
+use crate::refusal::Refusal;
 use crate::sending::write;
-use crate::steps::{read_program, read_script};
-use crate::stop::{OrMemory, Stop, refused};
+use crate::steps::{Sources, expand_page, read_sources};
+use crate::stop::{OrMemory, Stop};
 use dom_forest::print_doc;
 use fizz_outside::{Files, Sink};
 use fizz_text::Text;
-use jsx_syntax::App;
-use jsx_value::WeighRefused;
-use settle_script::Script;
-use settled_tree::{Forest, expand, final_of, laws_of_forests, shell_failures};
+use settled_tree::{final_of, laws_of_forests, shell_failures};
 use std::alloc::Global;
 
 /// Writes the document. Nothing is written of a page that is refused.
@@ -52,31 +47,25 @@ fn read<F: Files>(
         (λ at. RefusesTree at app.now script.now prefix.now)
         (files_change (F.files files.old) (F.faults files.old) (F.files files.new) (F.faults files.new)) result }
 {
-    let program = read_program(alloc, files, app)?;
-    let lines = read_script(alloc, files, script)?;
-    document_of(alloc, app, &program, &lines, prefix)
+    let sources = read_sources(alloc, files, app, script)?;
+    document_of(alloc, app, &sources, prefix)
 }
 
-/// The final document of a program's page where all that the script settles is known, as it is printed.
+/// The final document of a page, as it is printed.
 fn document_of(
     alloc: Global,
     app: &Text,
-    program: &App,
-    script: &Script,
+    sources: &Sources,
     prefix: &Text,
 ) -> Result<Vec<u8>, OrMemory<Refusal>>
-    requires { IsApp program.now }
-    ensures { AcceptsOrRefuses (λ document. PrintsPage (settled_page program.now script.now prefix.now) document.items)
-        (RefusesTreePage app.now (settled_page program.now script.now prefix.now)) result }
+    requires { IsApp sources.now.program }
+    ensures { AcceptsOrRefuses (λ document. PrintsPage (settled_page sources.now prefix.now) document.items)
+        (RefusesTreePage app.now (settled_page sources.now prefix.now)) result }
 {
     laws_of_forests();
-    let forest = match forest_of(alloc, program, script, prefix) {
+    let forest = match expand_page(alloc, app, sources, prefix) {
         Ok(forest) => forest,
-        Err(WeighRefused::TooLarge { limit }) => {
-            let fault = ProgramFault::TooLarge { limit };
-            return Err(refused(alloc, app, FileFault::Program(fault)));
-        }
-        Err(WeighRefused::OutOfMemory) => return Err(OrMemory::NoMemory),
+        Err(refused) => return Err(refused),
     };
     let failures = shell_failures(alloc, &forest)?;
     match failures.as_slice().first() {
@@ -85,20 +74,4 @@ fn document_of(
         })),
         None => Ok(print_doc(alloc, &final_of(alloc, &forest)?)?),
     }
-}
-
-/// The expansion of a program's page where all that the script settles is known.
-fn forest_of(
-    alloc: Global,
-    program: &App,
-    script: &Script,
-    prefix: &Text,
-) -> Result<Forest, WeighRefused>
-    requires { IsApp program.now }
-    ensures nodes { IfOk result (λ forest. forest.nodes ≡ forest_of (settled_page program.now script.now prefix.now)) }
-    ensures within { IfOk result (λ forest. page_weight (settled_page program.now script.now prefix.now) ≤ most_weight) }
-    ensures refused { IfErr result (IsTooLarge (page_weight (settled_page program.now script.now prefix.now))) }
-{
-    let outcomes = script.outcomes();
-    expand(alloc, program, outcomes, outcomes.len(), prefix)
 }

@@ -1,10 +1,10 @@
 //! The settling script of a page.
 
-ghost use Rattle.std.specs.Prelude.{◌≡◌, []};
+ghost use Rattle.std.specs.Prelude.{◌≡◌};
 ghost use Rattle.settle_script.specs.Scripts.{IsScript};
 ghost use Rattle.fizz_cli.specs.Reports.{files_change};
 ghost use Rattle.fizz_cli.specs.ScriptFaults.{fault_of};
-ghost use Rattle.fizz_cli.specs.ScriptFiles.{AcceptsScript, RefusesEmptyScript, RefusesScript, RefusesScriptBytes};
+ghost use Rattle.fizz_cli.specs.ScriptFiles.{AcceptsScript, RefusesScript, RefusesScriptBytes};
 ghost use Rattle.fizz_cli.specs.Steps.{AcceptsOrRefuses, ReadsFiles};
 
 use super::read_file::read_file;
@@ -33,24 +33,6 @@ pub(crate) fn read_script<F: Files>(
         Ok(script) => Ok(script),
         Err(OrMemory::Fault(fault)) => Err(refused(alloc, name, FileFault::Script(fault))),
         Err(OrMemory::NoMemory) => Err(OrMemory::NoMemory),
-    }
-}
-
-/// A script without lines in a file.
-pub(crate) fn read_empty_script<F: Files>(
-    alloc: Global,
-    files: &mut F,
-    name: &Text,
-) -> Result<(), OrMemory<Refusal>>
-    ensures { ReadsFiles (λ at _. AcceptsScript (at name.now) [])
-        (λ at faulted. RefusesEmptyScript faulted name.now (at name.now))
-        (files_change (F.files files.old) (F.faults files.old) (F.files files.new) (F.faults files.new)) result }
-{
-    let script = read_script(alloc, files, name)?;
-    if script.events().is_empty() {
-        Ok(())
-    } else {
-        Err(refused(alloc, name, FileFault::Script(ScriptFault::Unbuilt)))
     }
 }
 

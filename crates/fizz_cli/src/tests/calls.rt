@@ -6,7 +6,7 @@ use std::sync::Wait;
 use std::test::Fail;
 use std::thread::Threads;
 
-const RENDER: &[&str] = &["render", "a.jsx", "s.json"];
+pub(super) const RENDER: &[&str] = &["render", "a.jsx", "s.json"];
 
 const PAGE: &[u8] = b"function App() { return <div className=\"a\">Hi</div>; }\n";
 
@@ -59,14 +59,8 @@ const FILES: [(&[u8], &[u8], u8, &str, &str); 15] = [
         "",
         "a.jsx: NotUtf8 valid=16\n",
     ),
-    (
-        b"function App() { return null; }\n",
-        b"[]",
-        4,
-        "",
-        "a.jsx: Unbuilt\n",
-    ),
-    (b"", b"x", 4, "", "a.jsx: Unbuilt\n"),
+    (b"function App() { return null; }\n", b"[]", 0, "", ""),
+    (b"", b"x", 4, "", "a.jsx: NoApp\n"),
     (PAGE, b"", 4, "", "s.json: NotJson\n"),
     (PAGE, b"{}", 4, "", "s.json: NotJson\n"),
     (PAGE, b"\xff", 4, "", "s.json: NotJson\n"),

@@ -1,4 +1,4 @@
 use Rattle.fizz_cli.proofs.commands.serve.Goals as goal
 
 pub returns-in-Render : goal.returns-in-Render
-returns-in-Render g c = rw c.in-Render.is (c.serve.ensures c.in-Render.options c.in-Render.workers)
+returns-in-Render g c = rw c.in-Render.is (c.serve.ensures c.in-Render.workers)

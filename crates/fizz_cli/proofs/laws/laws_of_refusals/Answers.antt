@@ -1,14 +1,15 @@
 use Rattle.std.proofs.Common.{ℕ, List, ap, sym, subst}
 use Rattle.fizz_cli.specs.PageFiles.{RefusesPage, ShowsFile}
 use Rattle.fizz_cli.specs.Refusals.{plain_refusal}
-use Rattle.fizz_cli.proofs.RefusalsLemmas.{one_render, render_excludes}
 use Rattle.fizz_cli.proofs.laws.laws_of_refusals.Goals as goal
 
 pub returns-in-Render-clause-accepted : goal.returns-in-Render-clause-accepted
-returns-in-Render-clause-accepted c = rw c.in-Render.is (λ at refusal a r. render_excludes at c.in-Render.app c.in-Render.script a.0 refusal a.1 r)
+returns-in-Render-clause-accepted c = rw c.in-Render.is (λ at refusal a r.
+    c.laws_of_programs.ensures.rendered at c.in-Render.app c.in-Render.script c.in-Render.options.prefix a.0 refusal a.1 r)
 
 pub returns-in-Render-clause-one : goal.returns-in-Render-clause-one
-returns-in-Render-clause-one c = rw c.in-Render.is (λ at a b p q. ap plain_refusal (one_render at c.in-Render.app c.in-Render.script a b p q))
+returns-in-Render-clause-one c = rw c.in-Render.is (λ at a b p q.
+    c.laws_of_programs.ensures.one_render at c.in-Render.app c.in-Render.script c.in-Render.options.prefix a b p q)
 
 pub returns-in-Show-clause-accepted : goal.returns-in-Show-clause-accepted
 returns-in-Show-clause-accepted c = rw c.in-Show.is (λ at refusal a r.
@@ -24,8 +25,8 @@ returns-in-Show-clause-one c = rw c.in-Show.is (λ at a b p q.
 
 pub returns-in-Tree-clause-accepted : goal.returns-in-Tree-clause-accepted
 returns-in-Tree-clause-accepted c = rw c.in-Tree.is (λ at refusal a r.
-    c.laws_of_trees.ensures.accepted at c.in-Tree.app c.in-Tree.script c.in-Tree.prefix a.0 refusal a.1 r)
+    c.laws_of_programs-in-Tree.ensures.shown at c.in-Tree.app c.in-Tree.script c.in-Tree.prefix a.0 refusal a.1 r)
 
 pub returns-in-Tree-clause-one : goal.returns-in-Tree-clause-one
 returns-in-Tree-clause-one c = rw c.in-Tree.is (λ at a b p q.
-    c.laws_of_trees.ensures.one at c.in-Tree.app c.in-Tree.script c.in-Tree.prefix a b p q)
+    c.laws_of_programs-in-Tree.ensures.one_tree at c.in-Tree.app c.in-Tree.script c.in-Tree.prefix a b p q)

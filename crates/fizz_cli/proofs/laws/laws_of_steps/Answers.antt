@@ -1,9 +1,19 @@
 use Rattle.fizz_cli.proofs.Pages.{MachineLaws}
-use Rattle.fizz_cli.proofs.RefusalsLemmas.{app_excludes, page_excludes, script_excludes}
+use Rattle.fizz_cli.proofs.ProgramsLemmas.{ProgramLaws, program_excludes}
+use Rattle.fizz_cli.proofs.RefusalsLemmas.{page_excludes, script_excludes}
 use Rattle.fizz_cli.proofs.laws.laws_of_steps.Goals as goal
 
-pub returns-clause-app : goal.returns-clause-app
-returns-clause-app c = app_excludes
+pub returns-clause-program : goal.returns-clause-program
+returns-clause-program c =
+    let laws : ProgramLaws = record {
+      one_tokens = c.one_token_list.ensures;
+      one_lex = c.one_fault.ensures;
+      not_both = c.tokens_or_fault.ensures.not_both;
+      one_file = c.one_file.ensures;
+      one_check = c.one_check_fault.ensures.one;
+      no_check = c.one_check_fault.ensures.none;
+    } in
+    program_excludes laws
 
 pub returns-clause-script : goal.returns-clause-script
 returns-clause-script c = script_excludes
