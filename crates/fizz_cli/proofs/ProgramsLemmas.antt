@@ -150,7 +150,7 @@ module _ (laws : ProgramLaws) where
   text_sound bytes file f p (lexed at kind e utf8 c) rules = laws.not_both bytes p.tokens at kind p.are_tokens c
   text_sound bytes file f p (parsed at w e c) rules =
       not_refused bytes p.tokens at file p.spelled
-      (subst (λ (ts : List Token). IsRefusedAt bytes ts at) (laws.one_tokens bytes c.tokens p.tokens c.are_tokens p.are_tokens) c.cause)
+      (subst (λ (ts : List Token). IsRefusedAt bytes ts at) (laws.one_tokens bytes c.tokens p.tokens c.are_tokens p.are_tokens) c.cause.0)
   text_sound bytes file f p (checked fault e c) rules =
       rules fault e (subst (λ (x : File). IsFaultOf x fault) (same_file bytes c.file file c.spells p) c.cause)
 
@@ -193,12 +193,12 @@ module _ (laws : ProgramLaws) where
   parsed_text : (bytes : List ℕ) (m : ℕ) (w : Wanted) (file : File) → HasSyntaxFault bytes m w → IsTextOf bytes file → ⊥
   parsed_text bytes m w file c p =
       not_refused bytes p.tokens m file p.spelled
-      (subst (λ (ts : List Token). IsRefusedAt bytes ts m) (laws.one_tokens bytes c.tokens p.tokens c.are_tokens p.are_tokens) c.cause)
+      (subst (λ (ts : List Token). IsRefusedAt bytes ts m) (laws.one_tokens bytes c.tokens p.tokens c.are_tokens p.are_tokens) c.cause.0)
 
   one_parsed : (bytes : List ℕ) (m n : ℕ) (v w : Wanted) → HasSyntaxFault bytes m v → HasSyntaxFault bytes n w → m ≡ n
   one_parsed bytes m n v w p q =
-      one_place bytes p.tokens m n p.cause
-      (subst (λ (ts : List Token). IsRefusedAt bytes ts n) (laws.one_tokens bytes q.tokens p.tokens q.are_tokens p.are_tokens) q.cause)
+      one_place bytes p.tokens m n p.cause.0
+      (subst (λ (ts : List Token). IsRefusedAt bytes ts n) (laws.one_tokens bytes q.tokens p.tokens q.are_tokens p.are_tokens) q.cause.0)
 
   one_cause : (bytes : List ℕ) (a b : ProgramFault) → ProgramCause bytes a → ProgramCause bytes b → plain_program a ≡ plain_program b
   one_cause bytes a b (cut m e p) (cut n f q) = ap plain_program e ∙ (ap NotUtf8 (same_valid bytes m n p q) ∙ sym (ap plain_program f))
