@@ -1,5 +1,5 @@
 -- Component files as programs: one is a program or refused, and for one thing at most.
-use Rattle.std.proofs.Common.{◌≡◌, ℕ, ◌⊎◌, inl, inr, List, [], ◌∷◌, ◌++◌, map, Option, Some, None, refl, sym, ap, ap₂, ◌∙◌, subst, append_assoc, append-nil}
+use Rattle.std.proofs.Common.{◌≡◌, ℕ, ◌⊎◌, inl, inr, List, [], ◌∷◌, ◌++◌, map, Option, Some, None, Err, refl, sym, ap, ap₂, ◌∙◌, subst, append_assoc, append-nil}
 use Rattle.std.proofs.lemmas.List.{map-append}
 use Rattle.std.specs.Str.{IsUtf8, IsValidUpTo}
 use Rattle.jsx_lex.specs.FaultTable.{IsFaultAt}
@@ -9,7 +9,12 @@ use Rattle.jsx_lex.specs.declared.fault.LexKind.{LexKind}
 use Rattle.jsx_lex.specs.declared.token.Token.{Token}
 use Rattle.jsx_lex.specs.declared.word.Word.{Word}
 use Rattle.jsx_syntax.specs.Grammar.{SpellsFile}
-use Rattle.jsx_syntax.specs.Parsing.{IsRefusedAt, IsSpelled, place_of}
+use Rattle.jsx_syntax.specs.Parsing.{HasCause, IsRefusedAt, IsSpelled, place_of}
+use Rattle.jsx_syntax.specs.declared.fault.SyntaxFault.{SyntaxFault as SyntaxFound}
+use Rattle.jsx_syntax.specs.declared.fault.SyntaxFault.TheVariants as syntax
+use Rattle.fizz_cli.specs.ProgramFaults.{syntax_fault}
+use Rattle.fizz_cli.specs.Steps.{AcceptsOrRefuses}
+use Rattle.fizz_cli.specs.declared.stop.OrMemory.{OrMemory}
 use Rattle.jsx_syntax.specs.Refusals.{IsAlive, IsDead}
 use Rattle.jsx_syntax.specs.Rules.{IsApp}
 use Rattle.jsx_syntax.specs.declared.fault.Wanted.{Wanted}
@@ -223,3 +228,18 @@ module _ (laws : ProgramLaws) where
   pub one_program_fault : (bytes : List ℕ) (a b : ProgramFault) → RefusesProgramBytes bytes a → RefusesProgramBytes bytes b
       → plain_program a ≡ plain_program b
   one_program_fault bytes a b p q = one_cause bytes a b (program_cause bytes a p) (program_cause bytes b q)
+
+syntax_refusal : (A : Type 0) (accepts : A → Type 0) (bytes : List ℕ) (tokens : List Token) (fault : SyntaxFound) → IsUtf8 bytes
+    → AreTokens bytes tokens → HasCause bytes tokens fault
+    → AcceptsOrRefuses accepts (RefusesProgramBytes bytes) (Err (syntax_fault fault))
+syntax_refusal A accepts bytes tokens (syntax.Bad at_ wanted) utf8 are cause =
+    record { utf8 = utf8; tokens = tokens; are_tokens = are; cause = cause }
+syntax_refusal A accepts bytes tokens syntax.OutOfMemory utf8 are cause = tt
+
+-- what the parser refuses a text for, the text is refused for
+pub refuses_syntax : (A : Type 0) (accepts : A → Type 0) (bytes : List ℕ) (tokens : List Token) (fault : SyntaxFound)
+    (e : OrMemory ProgramFault) → e ≡ syntax_fault fault → IsUtf8 bytes → AreTokens bytes tokens → HasCause bytes tokens fault
+    → AcceptsOrRefuses accepts (RefusesProgramBytes bytes) (Err e)
+refuses_syntax A accepts bytes tokens fault e is utf8 are cause =
+    subst (λ (x : OrMemory ProgramFault). AcceptsOrRefuses accepts (RefusesProgramBytes bytes) (Err x)) (sym is)
+    (syntax_refusal A accepts bytes tokens fault utf8 are cause)

@@ -1,48 +1,10 @@
-//! Small component files as trees, put together from a stack of nodes.
+//! Small component files as trees.
 
 use fizz_text::Text;
 use jsx_syntax::{Component, Entry, Expr, File, Name, Node, Stmt};
-use sqlite_items::Items;
+use sqlite_items::{Boxed, Items};
 use std::alloc::Global;
-use std::mem;
 use std::test::Fail;
-
-/// What puts a page together. Each puts a node on the stack; the last one is what `App` returns.
-#[derive(Clone, Copy, Debug)]
-pub(super) enum Op {
-    Text(&'static str),
-    Int(i64),
-    Null,
-    /// `<Use name="resource"/>`
-    Use(&'static str),
-    /// `<Empty name="resource"/>`
-    Empty(&'static str),
-    /// `<Throw name="digest"/>`
-    Throw(&'static str),
-    /// An attribute of the next element.
-    Attribute(&'static str, Given),
-    /// An element around so many nodes.
-    Element(&'static str, u32),
-    /// `<>..</>` around so many nodes.
-    Fragment(u32),
-    Array(u32),
-    /// A boundary around so many nodes. The node before them is its fallback.
-    Boundary(u32),
-}
-
-/// The value of an attribute.
-#[derive(Clone, Copy, Debug)]
-pub(super) enum Given {
-    Text(&'static str),
-    Int(i64),
-    Bool(bool),
-}
-
-#[derive(Drop)]
-struct Stack {
-    nodes: Items<Node>,
-    props: Items<Entry<Node>>,
-}
 
 fn name(text: &'static str) -> Name {
     Name {
@@ -61,145 +23,97 @@ fn one<T: Drop>(alloc: Global, item: T) -> Result<Items<T>, Fail> {
     Ok(items)
 }
 
-/// The last nodes, as many as are asked for, in their order.
-fn taken(alloc: Global, nodes: &mut Items<Node>, count: u32) -> Result<Items<Node>, Fail> {
-    let mut backwards = Items::new(alloc);
-    for _ in 0..count {
-        let Some(node) = nodes.pop() else {
-            return Err(fizz_text::OutOfMemory.into());
-        };
-        backwards.push(node)?;
-    }
-    let mut forwards = Items::new(alloc);
-    while let Some(node) = backwards.pop() {
-        forwards.push(node)?;
-    }
-    Ok(forwards)
+fn three<T: Drop>(alloc: Global, first: T, second: T, third: T) -> Result<Items<T>, Fail> {
+    let mut items = one(alloc, first)?;
+    items.push(second)?;
+    items.push(third)?;
+    Ok(items)
 }
 
-fn value_node(value: Given) -> Node {
-    match value {
-        Given::Text(text) => Node::Value(Expr::Text(Text::fixed(text))),
-        Given::Int(number) => Node::Value(Expr::Int(number)),
-        Given::Bool(truth) => Node::Value(Expr::Bool(truth)),
-    }
-}
-
-fn call(alloc: Global, component: &'static str, argument: &'static str) -> Result<Node, Fail> {
-    let argument = Entry {
-        name: name("name"),
-        value: text(argument),
-    };
-    Ok(Node::Call {
-        name: name(component),
-        props: one(alloc, argument)?,
-    })
-}
-
-fn element(alloc: Global, stack: &mut Stack, tag: &'static str, count: u32) -> Result<Node, Fail> {
-    let kids = taken(alloc, &mut stack.nodes, count)?;
-    let props = mem::replace(&mut stack.props, Items::new(alloc));
-    Ok(Node::Host {
+fn element(alloc: Global, tag: &'static str, kids: Items<Node>) -> Node {
+    Node::Host {
         name: name(tag),
-        props,
+        props: Items::new(alloc),
         kids,
-    })
+    }
 }
 
-fn boundary(alloc: Global, nodes: &mut Items<Node>, count: u32) -> Result<Node, Fail> {
-    let kids = taken(alloc, nodes, count)?;
-    let Some(fallback) = nodes.pop() else {
-        return Err(fizz_text::OutOfMemory.into());
-    };
+fn body(alloc: Global) -> Node {
+    Node::Call {
+        name: name("Body"),
+        props: Items::new(alloc),
+    }
+}
+
+/// `<Suspense fallback={<i>wait</i>}><Body/></Suspense>`
+fn suspense(alloc: Global) -> Result<Node, Fail> {
     let fallback = Entry {
         name: name("fallback"),
-        value: fallback,
+        value: element(alloc, "i", one(alloc, text("wait"))?),
     };
     Ok(Node::Suspense {
         name: name("Suspense"),
         props: one(alloc, fallback)?,
-        kids,
+        kids: one(alloc, body(alloc))?,
     })
 }
 
-/// The node of an op, or None where it is an attribute.
-fn node(alloc: Global, stack: &mut Stack, op: Op) -> Result<Option<Node>, Fail> {
-    let node = match op {
-        Op::Text(words) => text(words),
-        Op::Int(number) => Node::Value(Expr::Int(number)),
-        Op::Null => Node::Value(Expr::Null),
-        Op::Use(resource) => call(alloc, "Use", resource)?,
-        Op::Empty(resource) => call(alloc, "Empty", resource)?,
-        Op::Throw(digest) => call(alloc, "Throw", digest)?,
-        Op::Attribute(attribute, value) => {
-            stack.props.push(Entry {
-                name: name(attribute),
-                value: value_node(value),
-            })?;
-            return Ok(None);
-        }
-        Op::Element(tag, count) => element(alloc, stack, tag, count)?,
-        Op::Fragment(count) => Node::Fragment(taken(alloc, &mut stack.nodes, count)?),
-        Op::Array(count) => Node::Array(taken(alloc, &mut stack.nodes, count)?),
-        Op::Boundary(count) => boundary(alloc, &mut stack.nodes, count)?,
-    };
-    Ok(Some(node))
-}
-
-fn app_node(alloc: Global, ops: &[Op]) -> Result<Node, Fail> {
-    let mut stack = Stack {
-        nodes: Items::new(alloc),
-        props: Items::new(alloc),
-    };
-    for op in ops.iter() {
-        if let Some(node) = node(alloc, &mut stack, *op)? {
-            stack.nodes.push(node)?;
-        }
-    }
-    match stack.nodes.pop() {
-        Some(node) => Ok(node),
-        None => Ok(Node::Value(Expr::Null)),
-    }
-}
-
-/// `function Use({ name }) { const x = use(name); return x; }`, where it has this name and returns this
-fn fetching(alloc: Global, component: &'static str, value: Expr) -> Result<Component, Fail> {
-    let fetch = Stmt::Fetch {
-        name: name("x"),
-        resource: Expr::Name(name("name")),
-    };
+/// `function Body() { const u = use("u"); if (u === 1) throw "one"; return u; }`
+fn body_component(alloc: Global) -> Result<Component, Fail> {
+    let mut stmts = one(
+        alloc,
+        Stmt::Fetch {
+            name: name("u"),
+            resource: Expr::Text(Text::fixed("u")),
+        },
+    )?;
+    stmts.push(Stmt::Throw {
+        test: Expr::Equal {
+            left: Boxed::new(alloc, Expr::Name(name("u")))?,
+            right: Boxed::new(alloc, Expr::Int(1))?,
+            negated: false,
+        },
+        digest: Expr::Text(Text::fixed("one")),
+    })?;
     Ok(Component {
-        name: name(component),
-        properties: one(alloc, name("name"))?,
-        stmts: one(alloc, fetch)?,
-        result: Node::Value(value),
+        name: name("Body"),
+        properties: Items::new(alloc),
+        stmts,
+        result: Node::Value(Expr::Name(name("u"))),
     })
 }
 
-/// `function Throw({ name }) { if (true) throw name; return null; }`
-fn throw_component(alloc: Global) -> Result<Component, Fail> {
-    let throw = Stmt::Throw {
-        test: Expr::Bool(true),
-        digest: Expr::Name(name("name")),
+/// What `App` returns, by its number.
+fn app_node(alloc: Global, number: u32) -> Result<Node, Fail> {
+    let node = match number {
+        0 => body(alloc),
+        1 => {
+            let kids = three(alloc, text("a"), body(alloc), text("b"))?;
+            element(alloc, "p", kids)
+        }
+        2 => {
+            let kids = three(
+                alloc,
+                text("a"),
+                suspense(alloc)?,
+                element(alloc, "br", Items::new(alloc)),
+            )?;
+            element(alloc, "div", kids)
+        }
+        _ => text("a<b"),
     };
-    Ok(Component {
-        name: name("Throw"),
-        properties: one(alloc, name("name"))?,
-        stmts: one(alloc, throw)?,
-        result: Node::Value(Expr::Null),
-    })
+    Ok(node)
 }
 
-/// A file whose `App` returns what the ops put together.
-pub(super) fn page(alloc: Global, ops: &[Op]) -> Result<File, Fail> {
-    let mut components = one(alloc, fetching(alloc, "Use", Expr::Name(name("x")))?)?;
-    components.push(fetching(alloc, "Empty", Expr::Null)?)?;
-    components.push(throw_component(alloc)?)?;
+/// `App` that returns `<Body/>`, `<p>{"a"}<Body/>{"b"}</p>`,
+/// `<div>{"a"}<Suspense fallback={<i>wait</i>}><Body/></Suspense><br/></div>` or `{"a<b"}`.
+pub(super) fn page(alloc: Global, number: u32) -> Result<File, Fail> {
+    let mut components = one(alloc, body_component(alloc)?)?;
     components.push(Component {
         name: name("App"),
         properties: Items::new(alloc),
         stmts: Items::new(alloc),
-        result: app_node(alloc, ops)?,
+        result: app_node(alloc, number)?,
     })?;
     Ok(File { components })
 }
