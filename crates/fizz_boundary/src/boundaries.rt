@@ -79,13 +79,7 @@ impl Boundaries {
 
     /// Makes a boundary, which has one task, its content, of the segments of its content and its fallback. Its number is
     /// answered.
-    pub fn add(
-        &mut self,
-        path: Path,
-        parent: Option<u32>,
-        root: SegId,
-        site: Option<SegId>,
-    ) -> u32
+    pub fn add(&mut self, path: Path, parent: Option<u32>, root: SegId, site: Option<SegId>) -> u32
         requires spare { 0 < self.old.spare }
         requires parent { IsParent self.old parent }
         ensures number { result ≡ length self.old.bounds }
