@@ -1,5 +1,5 @@
 -- What settlements make known.
-use Rattle.std.specs.Prelude.{◌≡◌, ◌≢◌, ℕ, List, [], ◌∷◌, take, if◌then◌else◌, is_some, Option, Some, None, AllPairs}
+use Rattle.std.specs.Prelude.{◌≡◌, ◌≢◌, ℕ, List, [], ◌∷◌, take, if◌then◌else◌, is_some, slice_get, Option, Some, None, AllPairs}
 use Rattle.std.specs.Str.{bytes_eq}
 use Rattle.settle_script.specs.declared.value.Entry.{Entry}
 use Rattle.settle_script.specs.declared.outcome.Outcome.{Outcome}
@@ -14,6 +14,15 @@ entry_named name (entry ∷ later) = if bytes_eq name entry.name then Some entry
 -- what the first `settled` settlements make known of a resource
 abbrev pub known : List (Entry Outcome) → ℕ → List ℕ → Option Outcome
 known outcomes settled name = entry_named name (take settled outcomes)
+
+-- the name of an entry, if there is one
+abbrev pub entry_name : {A : Type 0} → Option (Entry A) → Option (List ℕ)
+entry_name None = None
+entry_name (Some entry) = Some entry.name
+
+-- the resource of the settlement at a place
+abbrev pub name_at : List (Entry Outcome) → ℕ → Option (List ℕ)
+name_at outcomes place = entry_name (slice_get outcomes place)
 
 -- each name stands once
 abbrev pub HasDistinctNames : List (Entry Outcome) → Type 0

@@ -57,7 +57,7 @@ impl Model for Outcomes {
 }
 
 impl Outcomes {
-    ghost use Rattle.settle_script.specs.Settlements.{entry_named, known, IsFirstCommon, IsNew};
+    ghost use Rattle.settle_script.specs.Settlements.{entry_named, known, name_at, IsFirstCommon, IsNew};
     ghost use Rattle.settle_script.specs.Index.{place_of};
 
     /// No settlement.
@@ -88,6 +88,16 @@ impl Outcomes {
                 Some(&entries[place as usize].value)
             },
             _ => None,
+        }
+    }
+
+    /// The resource of the settlement at a place, from 0.
+    pub fn name_at(&self, place: u32) -> Option<&Text>
+        ensures { option_copied result ≡ name_at self.now place }
+    {
+        match self.entries.as_slice().get(place as usize) {
+            Some(entry) => Some(&entry.name),
+            None => None,
         }
     }
 
