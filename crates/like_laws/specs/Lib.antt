@@ -1,0 +1,5 @@
+pub mod Alike
+pub mod Apart
+pub mod Examples
+pub mod LikePages
+pub mod LikeViews
