@@ -1,9 +1,8 @@
 -- The marker before an element and the end of its boundary, in alike forests.
-use Rattle.std.proofs.Common.{◌≡◌, ◌⊎◌, inl, inr, ℕ, ◌+◌, ◌-◌, ◌<◌, ◌≤◌, ◌==◌, eqb, Bool, true, false, if◌then◌else◌, Option, Some, None, List, refl, sym, ap, ◌∙◌, subst, arith}
+use Rattle.std.proofs.Common.{◌≡◌, ◌⊎◌, inl, inr, ℕ, ◌+◌, ◌-◌, ◌≤◌, ◌==◌, eqb, Bool, true, false, if◌then◌else◌, Option, Some, None, refl, sym, ap, ◌∙◌, subst, arith}
 use Rattle.std.proofs.lemmas.Bool.{cond-true, cond-false, eq-eqb}
 use Rattle.dom_forest.specs.Boundary.{closing_mark}
-use Rattle.dom_forest.specs.Forest.{Forest, empty, tree, times, from, first_content, first_later, content_of, or_id, previous_after}
-use Rattle.dom_forest.specs.Ids.{has_id}
+use Rattle.dom_forest.specs.Forest.{Forest, empty, tree, times, first_content, or_id, previous_after}
 use Rattle.dom_forest.specs.declared.node.Mark.TheVariants.{Complete, Pending, Client, End, Space}
 use Rattle.dom_forest.specs.declared.node.NewNode.{NewNode}
 use Rattle.dom_forest.specs.declared.node.NewNode.TheVariants.{Element, Text, Comment}
@@ -12,7 +11,7 @@ use Rattle.page_laws.proofs.Contexts as context
 use Rattle.page_laws.proofs.Contexts.{Context, plug, around, from-plug, previous-plug, previous_after-none, times-plug}
 use Rattle.page_laws.proofs.MachineEdits.{from_first, one_self, one_zero}
 use Rattle.page_laws.proofs.PagesLemmas.{one}
-use Rattle.like_laws.specs.Alike.{AgreesAfter, Alike, both, ends, left, right, undigested}
+use Rattle.like_laws.specs.Alike.{Alike, both, ends, left, right, undigested}
 use Rattle.like_laws.proofs.AlikeContexts.{AlikeContext, after, aside, before, here, under}
 
 true_false : true ≡ false → ⊥

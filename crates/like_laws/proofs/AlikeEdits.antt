@@ -1,17 +1,15 @@
 -- Edits at the same places of alike forests leave alike forests.
-use Rattle.std.proofs.Common.{◌≡◌, ℕ, ◌+◌, ◌<◌, ◌≤◌, ◌==◌, eqb, Bool, true, false, if◌then◌else◌, Option, Some, None, List, refl, sym, ap, ◌∙◌, subst, arith}
+use Rattle.std.proofs.Common.{◌≡◌, ℕ, ◌+◌, ◌<◌, ◌≤◌, ◌==◌, eqb, Bool, true, false, if◌then◌else◌, Some, List, refl, sym, ap, ◌∙◌, subst, arith}
 use Rattle.std.proofs.lemmas.Bool.{cond-true, cond-false, eq-eqb}
 use Rattle.dom_forest.specs.Edits.{digest_set, numbered_from, with_change}
 use Rattle.dom_forest.specs.Forest.{Forest, count, empty, tree, times, joined_forests}
-use Rattle.dom_forest.specs.Ids.{has_id}
-use Rattle.dom_forest.specs.declared.node.Mark.TheVariants.{Complete, Pending, Client, End, Space}
+use Rattle.dom_forest.specs.declared.node.Mark.TheVariants.{Complete, Client, End}
 use Rattle.dom_forest.specs.declared.node.NewNode.{NewNode}
-use Rattle.dom_forest.specs.declared.node.NewNode.TheVariants.{Element, Text, Comment}
-use Rattle.document_machine.specs.Edits.{from_sibling, marker_of, waits}
+use Rattle.dom_forest.specs.declared.node.NewNode.TheVariants.{Comment}
+use Rattle.document_machine.specs.Edits.{from_sibling, waits}
 use Rattle.document_machine.proofs.Spots.{absent}
-use Rattle.page_laws.proofs.Contexts as context
 use Rattle.page_laws.proofs.Contexts.{Context, plug, around, times-plug, with_change-plug}
-use Rattle.page_laws.proofs.MachineEdits.{changed_first, first_once, one_self, one_zero, times-joined, times-numbered_from, with_change-past}
+use Rattle.page_laws.proofs.MachineEdits.{changed_first, first_once, one_self, one_zero, times-numbered_from, with_change-past}
 use Rattle.page_laws.proofs.PagesLemmas.{one}
 use Rattle.like_laws.specs.Alike.{AgreesAfter, Alike, both, ends, left, right, undigested}
 use Rattle.like_laws.specs.Apart.{ends_after}

@@ -1,12 +1,12 @@
 -- An instruction that can be followed in a document can be in an alike one, and leaves alike ones.
-use Rattle.std.proofs.Common.{◌≡◌, ℕ, ◌+◌, ◌<◌, ◌≤◌, ◌==◌, nat_lt, Bool, true, false, if◌then◌else◌, Option, Some, None, Ok, Err, List, [], ◌∷◌, length, reverse, refl, sym, ap, ◌∙◌, subst, arith}
+use Rattle.std.proofs.Common.{◌≡◌, ℕ, ◌≤◌, ◌==◌, nat_lt, Bool, true, false, if◌then◌else◌, Option, Some, None, Ok, Err, List, [], ◌∷◌, length, reverse, refl, sym, ap, ◌∙◌, subst, arith}
 use Rattle.std.specs.List.{list_any}
-use Rattle.std.proofs.lemmas.Bool.{le-ltb, ltb-false}
+use Rattle.std.proofs.lemmas.Bool.{ltb-false}
 use Rattle.std.proofs.lemmas.List.{length-reverse}
 use Rattle.dom_forest.specs.Boundary.{closing_mark, end_of_boundary}
-use Rattle.dom_forest.specs.Edits.{DomState, IsNumbered, digest_set, numbered_from, with_change, with_content, without_node}
+use Rattle.dom_forest.specs.Edits.{DomState, digest_set, numbered_from, with_change, with_content, without_node}
 use Rattle.dom_forest.specs.Forest.{Forest, empty, tree, times, first_kids, first_later, first_tree, from, joined_forests}
-use Rattle.dom_forest.specs.Ids.{element_with, has_id}
+use Rattle.dom_forest.specs.Ids.{element_with}
 use Rattle.dom_forest.specs.declared.node.Mark.TheVariants.{Client, Complete, End}
 use Rattle.dom_forest.specs.declared.node.NewNode.{NewNode}
 use Rattle.dom_forest.specs.declared.node.NewNode.TheVariants.{Comment, Element, Text}
@@ -17,8 +17,7 @@ use Rattle.document_machine.proofs.Keeping.{closed_found}
 use Rattle.document_machine.proofs.Opens.{list_any_reverse}
 use Rattle.page_laws.proofs.Contexts.{Context, plug, times-plug}
 use Rattle.page_laws.proofs.Filling.{given_below}
-use Rattle.page_laws.proofs.MachineEdits.{changed_first, fewer, from_first, one_self}
-use Rattle.page_laws.proofs.PagesLemmas.{one}
+use Rattle.page_laws.proofs.MachineEdits.{changed_first, fewer, from_first}
 use Rattle.like_laws.specs.Alike.{Alike, AreAlike, undigested}
 use Rattle.like_laws.specs.Apart.{StandApart, ends_after}
 use Rattle.like_laws.proofs.AlikeBoundaries.{Marked, end_pair, marked_both, marker_is, modes, no_marker, stands_after}

@@ -1,19 +1,17 @@
 -- The open elements of alike forests.
-use Rattle.std.proofs.Common.{◌≡◌, ℕ, zero, suc, ◌+◌, ◌≤◌, ◌==◌, eqb, Bool, true, false, ◌||◌, if◌then◌else◌, List, [], ◌∷◌, ◌++◌, length, Some, refl, sym, ap, ◌∙◌, subst, arith}
+use Rattle.std.proofs.Common.{◌≡◌, ℕ, ◌≤◌, ◌==◌, Bool, true, false, ◌||◌, List, [], ◌∷◌, ◌++◌, length, Some, refl, sym, ap, ◌∙◌, subst, arith}
 use Rattle.std.specs.List.{list_any}
-use Rattle.std.proofs.lemmas.Bool.{cond-true, eq-eqb}
-use Rattle.dom_forest.specs.Forest.{Forest, IsElement, empty, tree, times}
+use Rattle.std.proofs.lemmas.Bool.{eq-eqb}
+use Rattle.dom_forest.specs.Forest.{Forest, empty, tree, times}
 use Rattle.dom_forest.specs.declared.node.Mark.TheVariants.{Space}
 use Rattle.dom_forest.specs.declared.node.NewNode.{NewNode}
 use Rattle.dom_forest.specs.declared.node.NewNode.TheVariants.{Comment}
 use Rattle.document_machine.specs.Edits.{waits}
 use Rattle.document_machine.specs.Paths.{IsPath}
-use Rattle.document_machine.proofs.Spots.{path_past}
 use Rattle.page_laws.proofs.Contexts as context
 use Rattle.page_laws.proofs.Contexts.{Context, plug, times-plug}
 use Rattle.page_laws.proofs.MachineEdits.{one_self, one_zero}
-use Rattle.page_laws.proofs.PagesLemmas.{one}
-use Rattle.like_laws.specs.Alike.{AgreesAfter, Alike, both, ends, left, right, undigested}
+use Rattle.like_laws.specs.Alike.{Alike, both, ends, left, right}
 use Rattle.like_laws.proofs.AlikeContexts.{AlikeContext, Pair, after, aside, before, here, pair_after, pair_here, pair_left, pair_right, pair_under, under}
 
 -- Separators alone have no open element.

@@ -1,12 +1,11 @@
 -- Tokens that can be followed from a page can be from an alike one, and lead to alike pages.
-use Rattle.std.proofs.Common.{◌≡◌, ℕ, ◌<◌, ◌≤◌, ◌==◌, Bool, true, false, Option, Some, None, Ok, List, [], ◌∷◌, ◌++◌, length, reverse, refl, sym, ap, ◌∙◌, subst, arith}
+use Rattle.std.proofs.Common.{◌≡◌, ℕ, ◌≤◌, Bool, false, Some, Ok, List, [], ◌∷◌, ◌++◌, length, reverse, refl, sym, ap, ◌∙◌, subst, arith}
 use Rattle.std.proofs.lemmas.List.{length-reverse, reverse-append}
-use Rattle.dom_forest.specs.Edits.{DomState, with_appended, with_change, with_last}
+use Rattle.dom_forest.specs.Edits.{DomState, with_appended, with_change}
 use Rattle.dom_forest.specs.Forest.{Forest, empty, joined_forests, times, tree}
-use Rattle.dom_forest.specs.Ids.{element_with}
 use Rattle.dom_forest.specs.declared.node.NewNode.{NewNode}
 use Rattle.dom_forest.specs.declared.node.NewNode.TheVariants.{Comment, Element, Text}
-use Rattle.fizz_instructions.specs.Bodies.{boundary_id, function_of, segment_id}
+use Rattle.fizz_instructions.specs.Bodies.{function_of, segment_id}
 use Rattle.fizz_instructions.specs.Reading.{Says}
 use Rattle.fizz_instructions.specs.Sending.{with_function}
 use Rattle.fizz_instructions.specs.declared.instruction.Instruction.{Instruction}
@@ -14,7 +13,7 @@ use Rattle.fizz_instructions.specs.declared.instruction.Instruction.TheVariants 
 use Rattle.html_read.specs.declared.token.Token.{Token}
 use Rattle.html_read.specs.declared.token.Token.TheVariants as tok
 use Rattle.document_machine.specs.declared.building.OpenElement.{OpenElement}
-use Rattle.document_machine.specs.Documents.{LeavesNoRest, Runs, Step, Steps, ends, marks, most_open, runs, says, stands, starts}
+use Rattle.document_machine.specs.Documents.{Runs, Step, Steps, ends, marks, runs, says, stands, starts}
 use Rattle.document_machine.specs.Edits.{closed_with, waits}
 use Rattle.document_machine.specs.Paths.{IsOpenDocument, IsPath}
 use Rattle.document_machine.specs.Running.{PageState, edit_of, ids_of, innermost, mark_of, with_node, with_open}

@@ -2,9 +2,7 @@
 use Rattle.std.proofs.Common.{◌≡◌, ℕ, ◌+◌, ◌≤◌, ◌==◌, ◌&&◌, Bool, true, false, if◌then◌else◌, Option, Some, None, List, refl, sym, ap, ◌∙◌, subst, arith}
 use Rattle.dom_forest.specs.Forest.{Forest, empty, tree, times, or_id}
 use Rattle.dom_forest.specs.Ids.{element_with, has_id}
-use Rattle.dom_forest.specs.declared.node.Mark.TheVariants.{Space}
 use Rattle.dom_forest.specs.declared.node.NewNode.{NewNode}
-use Rattle.dom_forest.specs.declared.node.NewNode.TheVariants.{Comment}
 use Rattle.document_machine.specs.Edits.{waits}
 use Rattle.page_laws.specs.Nodes.{node, nodes_of, none}
 use Rattle.page_laws.proofs.Contexts as context

@@ -3,7 +3,7 @@ use Rattle.std.proofs.Common.{◌≡◌, ℕ, ◌&&◌, ◌||◌, Bool, true, fa
 use Rattle.std.specs.Str.{bytes_eq}
 use Rattle.fizz_text.specs.declared.attribute.Attr.{Attr}
 use Rattle.dom_forest.specs.Edits.{is_digest}
-use Rattle.dom_forest.specs.Forest.{Forest, empty, tree}
+use Rattle.dom_forest.specs.Forest.{Forest, tree}
 use Rattle.dom_forest.specs.declared.node.Mark.{Mark}
 use Rattle.dom_forest.specs.declared.node.Mark.TheVariants.{Complete, Pending, Client, End, Space}
 use Rattle.dom_forest.specs.declared.node.NewNode.{NewNode}

@@ -1,7 +1,6 @@
 -- What instructions move stands apart from markers in a streamed document.
-use Rattle.std.proofs.Common.{◌≡◌, ℕ, ◌||◌, Bool, true, false, Option, Some, None, List, [], ◌∷◌, refl, sym, ap, ◌∙◌, subst, codes}
+use Rattle.std.proofs.Common.{◌≡◌, ℕ, ◌||◌, Bool, true, false, Option, Some, None, List, [], ◌∷◌, refl, sym, ap, ◌∙◌, subst}
 use Rattle.std.specs.Str.{bytes_eq}
-use Rattle.fizz_text.specs.declared.attribute.Attr.{Attr}
 use Rattle.dom_forest.specs.Edits.{DomState}
 use Rattle.dom_forest.specs.Forest.{Forest, empty, joined_forests, tree}
 use Rattle.dom_forest.specs.Ids.{has_id}

@@ -1,9 +1,9 @@
 -- Small documents, for worked examples. Their later siblings are given.
-use Rattle.std.specs.Prelude.{ℕ, List, [], ◌∷◌, codes, Some}
+use Rattle.std.specs.Prelude.{ℕ, List, [], ◌∷◌, codes}
 use Rattle.dom_forest.specs.Edits.{digest_attribute}
 use Rattle.dom_forest.specs.Forest.{Forest, empty, tree}
 use Rattle.dom_forest.specs.declared.node.Mark.{Mark}
-use Rattle.dom_forest.specs.declared.node.Mark.TheVariants.{Client, Pending, Space}
+use Rattle.dom_forest.specs.declared.node.Mark.TheVariants.{Space}
 use Rattle.dom_forest.specs.declared.node.NewNode.TheVariants.{Comment, Element, Text}
 use Rattle.page_laws.specs.Pages.{id_attribute}
 

@@ -25,12 +25,13 @@ pub record AlikePages (a b : PageState) : Type 0 where
 
 -- Whenever a script is run, what instructions move stands apart from markers.
 abbrev pub MovesApart : List ℕ → PageState → List Token → Type 0
-MovesApart prefix start toks = (done more : List Token) (body : List ℕ) (from : ℕ) (now : PageState) → toks ≡ done ++ tok.Script body from ∷ more
-    → Steps prefix start done now → StandApart prefix false now.dom.forest
+MovesApart prefix start toks = (done more : List Token) (body : List ℕ) (from : ℕ) (now : PageState)
+    → toks ≡ done ++ tok.Script body from ∷ more → Steps prefix start done now → StandApart prefix false now.dom.forest
 
 -- The bytes run from the other start too, to a page that is alike to the one at which they end, and leave no rest where
 -- they left none.
-pub record RunsAlike (prefix : List ℕ) (start : PageState) (bytes : List ℕ) (end : PageState) (old : PageState) (first : Runs prefix old bytes end) : Type 0 where
+pub record RunsAlike (prefix : List ℕ) (start : PageState) (bytes : List ℕ) (end old : PageState) (first : Runs prefix old bytes end)
+    : Type 0 where
   pub later : PageState
   pub run : Runs prefix start bytes later
   pub alike : AlikePages end later

@@ -13,7 +13,8 @@ ghost use Rattle.like_laws.specs.Examples.{comment, container_of, digest_paragra
 pub(crate) fn documents_that_are_alike()
     ensures texts { AreAlike (said (codes "a") (space (said (codes "b") empty)))
         (said (codes "a") (said (codes "b") empty)) }
-    ensures joined { ¬ AreAlike (said (codes "a") (said (codes "b") empty)) (said (codes "ab") empty) }
+    ensures joined { ¬ AreAlike (said (codes "a") (said (codes "b") empty))
+        (said (codes "ab") empty) }
     ensures pending { ¬ AreAlike (comment Pending (space (template_of (codes "B:1") empty)))
         (comment Pending (template_of (codes "B:1") empty)) }
     ensures complete { AreAlike (comment Complete (space (template_of (codes "B:1") empty)))
@@ -33,5 +34,6 @@ pub(crate) fn what_stands_apart()
     ensures after_end { StandApart [] false
         (comment Complete (template_of (codes "P:1") empty)) }
     ensures last { ¬ StandApart [] false (container_of (comment Pending empty) empty) }
-    ensures in_it { StandApart [] false (container_of (comment Pending (said (codes "a") empty)) empty) }
+    ensures in_it { StandApart [] false
+        (container_of (comment Pending (said (codes "a") empty)) empty) }
 {}

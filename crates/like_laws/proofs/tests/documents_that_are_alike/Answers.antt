@@ -1,11 +1,11 @@
-use Rattle.std.proofs.Common.{◌≡◌, ℕ, true, false, List, [], ◌∷◌, codes, Some, refl, ap, arith}
+use Rattle.std.proofs.Common.{◌≡◌, ℕ, true, false, List, [], ◌∷◌, codes, refl, arith}
 use Rattle.dom_forest.specs.Edits.{digest_attribute}
-use Rattle.dom_forest.specs.Forest.{Forest, empty, tree}
+use Rattle.dom_forest.specs.Forest.{empty}
 use Rattle.dom_forest.specs.declared.node.Mark.TheVariants.{Client, Complete, Pending}
 use Rattle.dom_forest.specs.declared.node.NewNode.TheVariants.{Comment, Element, Text}
-use Rattle.document_machine.specs.Views.{View, element, end, text}
+use Rattle.document_machine.specs.Views.{element, end, text}
 use Rattle.page_laws.specs.Pages.{id_attribute}
-use Rattle.like_laws.specs.Alike.{Alike, both, ends, left, undigested}
+use Rattle.like_laws.specs.Alike.{both, ends, left}
 use Rattle.like_laws.specs.Examples.{comment, digest_template, paragraph, digest_paragraph, plain_template, said, space, template_of}
 use Rattle.like_laws.proofs.FoundLemmas.{count_after-alike, ends_after-alike}
 use Rattle.like_laws.proofs.LikeViewsLemmas.{same_views}

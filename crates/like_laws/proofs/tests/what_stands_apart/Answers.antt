@@ -1,8 +1,7 @@
-use Rattle.std.proofs.Common.{◌≡◌, ◌||◌, Bool, true, false, List, [], ◌∷◌, codes, Some, refl, sym, ap, ◌∙◌}
+use Rattle.std.proofs.Common.{◌≡◌, ◌||◌, Bool, true, false, [], codes, refl, sym, ap, ◌∙◌}
 use Rattle.std.specs.Str.{bytes_eq}
-use Rattle.dom_forest.specs.Ids.{has_id}
 use Rattle.fizz_instructions.specs.Bodies.{placeholder_id, segment_id}
-use Rattle.page_laws.proofs.IdsLemmas.{boundary_no_placeholder, boundary_no_segment, placeholder_no_segment, segment_no_placeholder}
+use Rattle.page_laws.proofs.IdsLemmas.{boundary_no_placeholder, boundary_no_segment, placeholder_no_segment}
 use Rattle.like_laws.proofs.tests.what_stands_apart.Goals as goal
 
 no : {A : Type 0} (b : Bool) → b ≡ false → b ≡ true → A
