@@ -3,13 +3,14 @@
 # 1,000, 10,000 and 100,000 late boundaries; chains of boundaries in one another of which the innermost is shown first, of
 # 1,000 and 10,000; and chains of segments, each put into the one before it, of 10,000 and 40,000. It prints seconds a
 # call, MB of page a second and peak memory, also a byte of the page. From one size to the next it says with which power
-# of the size the time grows: 1 is in proportion, 2 with the square. Not part of the gate.
+# of the size the time grows: 1 is in proportion, 2 with the square. A call may take 8 GB. Not part of the gate.
 set -eu
 cd "$(dirname "${BASH_SOURCE[0]}")/.."
 ./fizz render examples/hello.jsx examples/hello.json >/dev/null
 work=$(mktemp -d)
 trap 'rm -rf "$work"' EXIT
 step=${step:-run} bash bench/escape.sh >"$work/escape"
+ulimit -v 8388608
 python3 - "$work" <<'PY'
 import math, os, re, sys, time
 
@@ -73,16 +74,21 @@ def show(pieces):
     pid = os.posix_spawn(program, [program, 'show', path], os.environ, file_actions=[(os.POSIX_SPAWN_DUP2, sink, 1)])
     _, status, usage = os.wait4(pid, 0)
     os.close(sink)
-    if status != 0:
-        sys.exit(f'fizz show ended with {os.waitstatus_to_exitcode(status)}')
-    return os.path.getsize(path), time.perf_counter() - start, usage.ru_maxrss * 1024
+    seconds = time.perf_counter() - start
+    code = os.waitstatus_to_exitcode(status)
+    if code not in (0, 8):
+        sys.exit(f'fizz show ended with {code}')
+    return os.path.getsize(path), seconds, usage.ru_maxrss * 1024, code == 0
 
 
 def series(title, sizes, page_of, unit):
     print(title)
     before = None
     for size in sizes:
-        length, seconds, peak = show(page_of(size))
+        length, seconds, peak, is_done = show(page_of(size))
+        if not is_done:
+            print(f'{size:>7} {unit:<10} {length:>9} bytes, more than 8 GB')
+            break
         more = '' if before is None else f'  power {math.log(seconds / before[1]) / math.log(size / before[0]):.2f}'
         if unit == 'MB':
             rate = escaping.get(size, escaping[10])

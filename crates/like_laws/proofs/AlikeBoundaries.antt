@@ -11,7 +11,7 @@ use Rattle.page_laws.proofs.Contexts as context
 use Rattle.page_laws.proofs.Contexts.{Context, plug, around, from-plug, previous-plug, previous_after-none, times-plug}
 use Rattle.page_laws.proofs.MachineEdits.{from_first, one_self, one_zero}
 use Rattle.page_laws.proofs.PagesLemmas.{one}
-use Rattle.like_laws.specs.Alike.{Alike, both, ends, left, right, undigested}
+use Rattle.like_laws.specs.Alike.{Alike, both, ends, left, right, content_without_digest}
 use Rattle.like_laws.proofs.AlikeContexts.{AlikeContext, after, aside, before, here, under}
 
 true_false : true ≡ false → ⊥
@@ -171,7 +171,7 @@ pub record Marked (m n : Bool) (C D : Context) : Type 0 where
   pub contexts : AlikeContext m n E F x y
   pub inner : Alike false false kids others
   pub waiting : waits (Some c) ≡ true
-  pub same : undigested c ≡ undigested d
+  pub same : content_without_digest c ≡ content_without_digest d
 
 marked : (m n x y : Bool) (C D : Context) → AlikeContext m n C D x y → x ≡ true → y ≡ true → ((C ≡ context.here) × (D ≡ context.here)) ⊎ Marked m n C D
 marked _ _ _ _ _ _ (here m n) p q = inl (refl, refl)
@@ -316,9 +316,9 @@ searched_is (Comment Client) i k kids later = refl
 searched_is (Comment End) i k kids later = refl
 searched_is (Comment Space) i k kids later = refl
 
-same_turn : (c d : NewNode) → undigested c ≡ undigested d → turning c ≡ turning d
+same_turn : (c d : NewNode) → content_without_digest c ≡ content_without_digest d → turning c ≡ turning d
 same_turn c d e = sym (bare_turn c) ∙ ap turning e ∙ bare_turn d where
-  bare_turn : (c : NewNode) → turning (undigested c) ≡ turning c
+  bare_turn : (c : NewNode) → turning (content_without_digest c) ≡ turning c
   bare_turn (Element name attributes) = refl
   bare_turn (Text t) = refl
   bare_turn (Comment Complete) = refl

@@ -8,16 +8,16 @@ use Rattle.dom_forest.specs.declared.node.NewNode.TheVariants.{Comment}
 use Rattle.document_machine.specs.Edits.{waits}
 use Rattle.page_laws.proofs.Contexts as context
 use Rattle.page_laws.proofs.Contexts.{Context, plug}
-use Rattle.like_laws.specs.Alike.{AgreesAfter, Alike, both, ends, left, right, undigested}
+use Rattle.like_laws.specs.Alike.{AgreesAfter, Alike, both, ends, left, right, content_without_digest}
 use Rattle.like_laws.specs.Apart.{ends_after}
 use Rattle.like_laws.proofs.ContentLemmas.{same_ids}
 
 -- Contexts that are alike: a forest of which the first nodes stand after a marker or not, and then the part.
 pub data AlikeContext : Bool → Bool → Context → Context → Bool → Bool → Type 0 where
   here : (m n : Bool) → AlikeContext m n context.here context.here m n
-  under : (m n x y : Bool) (i j : ℕ) (c d : NewNode) (C D : Context) (f g : Forest) → undigested c ≡ undigested d → AgreesAfter c m n
+  under : (m n x y : Bool) (i j : ℕ) (c d : NewNode) (C D : Context) (f g : Forest) → content_without_digest c ≡ content_without_digest d → AgreesAfter c m n
       → AlikeContext false false C D x y → Alike (waits (Some c)) (waits (Some d)) f g → AlikeContext m n (context.under i c C f) (context.under j d D g) x y
-  after : (m n x y : Bool) (i j : ℕ) (c d : NewNode) (kids others : Forest) (C D : Context) → undigested c ≡ undigested d → AgreesAfter c m n
+  after : (m n x y : Bool) (i j : ℕ) (c d : NewNode) (kids others : Forest) (C D : Context) → content_without_digest c ≡ content_without_digest d → AgreesAfter c m n
       → Alike false false kids others → AlikeContext (waits (Some c)) (waits (Some d)) C D x y → AlikeContext m n (context.after i c kids C) (context.after j d others D) x y
   before : (m n x y : Bool) (i : ℕ) (C D : Context) → AlikeContext false n C D x y → AlikeContext m n (context.after i (Comment Space) empty C) D x y
   aside : (m n x y : Bool) (j : ℕ) (C D : Context) → AlikeContext m false C D x y → AlikeContext m n C (context.after j (Comment Space) empty D) x y
@@ -45,13 +45,13 @@ pub record Pair (m n : Bool) (f g : Forest) (i j : ℕ) : Type 0 where
   pub first_is : f ≡ plug C (tree i c kids later)
   pub second_is : g ≡ plug D (tree j d others rest)
   pub contexts : AlikeContext m n C D x y
-  pub same : undigested c ≡ undigested d
+  pub same : content_without_digest c ≡ content_without_digest d
   pub agrees : AgreesAfter c x y
   pub inner : Alike false false kids others
   pub outer : Alike (waits (Some c)) (waits (Some d)) later rest
 
 -- a pair that stands below or after a node
-abbrev pub pair_under : (m n : Bool) (i j p q : ℕ) (c d : NewNode) (kids others f g : Forest) → undigested c ≡ undigested d → AgreesAfter c m n
+abbrev pub pair_under : (m n : Bool) (i j p q : ℕ) (c d : NewNode) (kids others f g : Forest) → content_without_digest c ≡ content_without_digest d → AgreesAfter c m n
     → Alike (waits (Some c)) (waits (Some d)) f g → Pair false false kids others p q → Pair m n (tree i c kids f) (tree j d others g) p q
 pair_under m n i j p q c d kids others f g e o l r = record {
   x = r.x;
@@ -73,7 +73,7 @@ pair_under m n i j p q c d kids others f g e o l r = record {
   outer = r.outer;
 }
 
-abbrev pub pair_after : (m n : Bool) (i j p q : ℕ) (c d : NewNode) (kids others f g : Forest) → undigested c ≡ undigested d → AgreesAfter c m n
+abbrev pub pair_after : (m n : Bool) (i j p q : ℕ) (c d : NewNode) (kids others f g : Forest) → content_without_digest c ≡ content_without_digest d → AgreesAfter c m n
     → Alike false false kids others → Pair (waits (Some c)) (waits (Some d)) f g p q → Pair m n (tree i c kids f) (tree j d others g) p q
 pair_after m n i j p q c d kids others f g e o k r = record {
   x = r.x;
@@ -137,7 +137,7 @@ pair_right m n j p q f g r = record {
   outer = r.outer;
 }
 
-abbrev pub pair_here : (m n : Bool) (i j : ℕ) (c d : NewNode) (kids others f g : Forest) → undigested c ≡ undigested d → AgreesAfter c m n
+abbrev pub pair_here : (m n : Bool) (i j : ℕ) (c d : NewNode) (kids others f g : Forest) → content_without_digest c ≡ content_without_digest d → AgreesAfter c m n
     → Alike false false kids others → Alike (waits (Some c)) (waits (Some d)) f g → Pair m n (tree i c kids f) (tree j d others g) i j
 pair_here m n i j c d kids others f g e o k l = record {
   x = m;
@@ -181,7 +181,7 @@ pub record Found (m n : Bool) (f g : Forest) (id : List ℕ) (i : ℕ) : Type 0 
   pub has : has_id id pair.c ≡ true
 
 module _ (id : List ℕ) (p : ℕ) where
-  found_tree : (m n : Bool) (i j : ℕ) (c d : NewNode) (kids others f g : Forest) (s : undigested c ≡ undigested d) (o : AgreesAfter c m n)
+  found_tree : (m n : Bool) (i j : ℕ) (c d : NewNode) (kids others f g : Forest) (s : content_without_digest c ≡ content_without_digest d) (o : AgreesAfter c m n)
       (k : Alike false false kids others) (l : Alike (waits (Some c)) (waits (Some d)) f g)
       (b q : Bool) → has_id id c ≡ b → has_id id d ≡ q → b ≡ q → (in_kids : Option ℕ) → element_with id kids ≡ in_kids
       → (if b then Some i else or_id in_kids (element_with id f)) ≡ Some p

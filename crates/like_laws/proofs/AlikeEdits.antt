@@ -11,7 +11,7 @@ use Rattle.document_machine.proofs.Spots.{absent}
 use Rattle.page_laws.proofs.Contexts.{Context, plug, around, times-plug, with_change-plug}
 use Rattle.page_laws.proofs.MachineEdits.{changed_first, first_once, one_self, one_zero, times-numbered_from, with_change-past}
 use Rattle.page_laws.proofs.PagesLemmas.{one}
-use Rattle.like_laws.specs.Alike.{AgreesAfter, Alike, both, ends, left, right, undigested}
+use Rattle.like_laws.specs.Alike.{AgreesAfter, Alike, both, ends, left, right, content_without_digest}
 use Rattle.like_laws.specs.Apart.{ends_after}
 use Rattle.like_laws.proofs.AlikeContexts.{AlikeContext, joined_alike, plugged}
 
@@ -116,7 +116,7 @@ reveals_alike m n x y E F i j e e' below under put put' z z' r r' c b p a q =
     (joined_alike false false put put' _ _ p (λ s _. both s s e e' (Comment End) (Comment End) z z' r r' refl (λ id h. refl) a q)))
 
 pub fails_alike : (m n x y : Bool) (E F : Context) (i j t t' : ℕ) (c d : NewNode) (below under kids others f g : Forest) → AlikeContext m n E F x y → Alike false false below under
-    → undigested c ≡ undigested d → Alike false false kids others → Alike (waits (Some c)) (waits (Some d)) f g
+    → content_without_digest c ≡ content_without_digest d → Alike false false kids others → Alike (waits (Some c)) (waits (Some d)) f g
     → Alike m n (plug E (tree i (Comment Client) below (tree t c kids f))) (plug F (tree j (Comment Client) under (tree t' d others g)))
 fails_alike m n x y E F i j t t' c d below under kids others f g r b s k l =
     plugged m n x y E F _ _ r

@@ -18,7 +18,7 @@ use Rattle.document_machine.proofs.Opens.{list_any_reverse}
 use Rattle.page_laws.proofs.Contexts.{Context, plug, times-plug}
 use Rattle.page_laws.proofs.Filling.{given_below}
 use Rattle.page_laws.proofs.MachineEdits.{changed_first, fewer, from_first}
-use Rattle.like_laws.specs.Alike.{Alike, AreAlike, undigested}
+use Rattle.like_laws.specs.Alike.{Alike, AreAlike, content_without_digest}
 use Rattle.like_laws.specs.Apart.{StandApart, ends_after}
 use Rattle.like_laws.proofs.AlikeBoundaries.{Marked, end_pair, marked_both, marker_is, modes, no_marker, stands_after}
 use Rattle.like_laws.proofs.AlikeContexts.{AlikeContext, Found, Pair, found_pair, not_found, plugged}
@@ -199,7 +199,7 @@ client_first t m (b ∷ bs) dom E w x below kids later is once =
     ap (λ h. with_change t (λ content k l. tree t (digest_set (b ∷ bs) content) k l) (with_change m (λ content k l. tree m (Comment Client) k l) h)) is
     ∙ failed_with E m t w x below kids later once (b ∷ bs)
 
-same_digested : (digest : List ℕ) (c d : NewNode) → undigested c ≡ undigested d → undigested (digested digest c) ≡ undigested (digested digest d)
+same_digested : (digest : List ℕ) (c d : NewNode) → content_without_digest c ≡ content_without_digest d → content_without_digest (digested digest c) ≡ content_without_digest (digested digest d)
 same_digested [] c d e = e
 same_digested (b ∷ bs) c d e = same_digest_set (b ∷ bs) c d e
 

@@ -9,7 +9,7 @@ use Rattle.dom_forest.specs.Ids.{gives_id, has_id, is_value}
 use Rattle.dom_forest.specs.declared.node.NewNode.{NewNode}
 use Rattle.dom_forest.specs.declared.node.NewNode.TheVariants.{Element, Text, Comment}
 use Rattle.document_machine.specs.Edits.{waits}
-use Rattle.like_laws.specs.Alike.{attributes_kept, undigested}
+use Rattle.like_laws.specs.Alike.{attributes_without_digest, content_without_digest}
 
 abbrev no_digests : List Attr → List Attr
 no_digests attributes = filter (λ a. not (is_digest a)) attributes
@@ -32,21 +32,21 @@ any_of : (id : List ℕ) (xs : List Attr) (b : Bool) → list_any (gives_id id) 
 any_of id xs true = any_undigested id xs
 any_of id xs false = refl
 
-pub has_id-undigested : (id : List ℕ) (c : NewNode) → has_id id (undigested c) ≡ has_id id c
-has_id-undigested id (Element name attributes) = any_of id attributes (bytes_eq name (codes "template"))
-has_id-undigested id (Text text) = refl
-has_id-undigested id (Comment mark) = refl
+pub has_id-content_without_digest : (id : List ℕ) (c : NewNode) → has_id id (content_without_digest c) ≡ has_id id c
+has_id-content_without_digest id (Element name attributes) = any_of id attributes (bytes_eq name (codes "template"))
+has_id-content_without_digest id (Text text) = refl
+has_id-content_without_digest id (Comment mark) = refl
 
-pub same_ids : (id : List ℕ) (c d : NewNode) → undigested c ≡ undigested d → has_id id c ≡ has_id id d
-same_ids id c d e = sym (has_id-undigested id c) ∙ ap (has_id id) e ∙ has_id-undigested id d
+pub same_ids : (id : List ℕ) (c d : NewNode) → content_without_digest c ≡ content_without_digest d → has_id id c ≡ has_id id d
+same_ids id c d e = sym (has_id-content_without_digest id c) ∙ ap (has_id id) e ∙ has_id-content_without_digest id d
 
-waits-undigested : (c : NewNode) → waits (Some (undigested c)) ≡ waits (Some c)
-waits-undigested (Element name attributes) = refl
-waits-undigested (Text text) = refl
-waits-undigested (Comment mark) = refl
+waits-content_without_digest : (c : NewNode) → waits (Some (content_without_digest c)) ≡ waits (Some c)
+waits-content_without_digest (Element name attributes) = refl
+waits-content_without_digest (Text text) = refl
+waits-content_without_digest (Comment mark) = refl
 
-pub same_waits : (c d : NewNode) → undigested c ≡ undigested d → waits (Some c) ≡ waits (Some d)
-same_waits c d e = sym (waits-undigested c) ∙ ap (λ x. waits (Some x)) e ∙ waits-undigested d
+pub same_waits : (c d : NewNode) → content_without_digest c ≡ content_without_digest d → waits (Some c) ≡ waits (Some d)
+same_waits c d e = sym (waits-content_without_digest c) ∙ ap (λ x. waits (Some x)) e ∙ waits-content_without_digest d
 
 -- An element with an id is no marker.
 pub id_no_marker : (id : List ℕ) (c : NewNode) → has_id id c ≡ true → waits (Some c) ≡ false
@@ -78,21 +78,21 @@ same_set : (digest name xs ys : _) (b : Bool) → (if b then no_digests xs else 
 same_set digest name xs ys true e = ap (Element name) (set_undigested digest xs ∙ e ∙ sym (set_undigested digest ys))
 same_set digest name xs ys false e = ap (λ zs. Element name (with_digest digest zs)) e
 
-pub same_digest_set : (digest : List ℕ) (c d : NewNode) → undigested c ≡ undigested d → undigested (digest_set digest c) ≡ undigested (digest_set digest d)
+pub same_digest_set : (digest : List ℕ) (c d : NewNode) → content_without_digest c ≡ content_without_digest d → content_without_digest (digest_set digest c) ≡ content_without_digest (digest_set digest d)
 same_digest_set digest (Element name xs) (Element other ys) e =
-    let whole : Element name (attributes_kept name xs) ≡ Element other (attributes_kept other ys) = e in
+    let whole : Element name (attributes_without_digest name xs) ≡ Element other (attributes_without_digest other ys) = e in
     let names : name ≡ other = cc in
-    subst (λ n. Element name (attributes_kept name (with_digest digest xs)) ≡ Element n (attributes_kept n (with_digest digest ys))) names
-    (same_set digest name xs ys (bytes_eq name (codes "template")) (let kept : attributes_kept name xs ≡ attributes_kept other ys = cc in kept ∙ ap (λ n. attributes_kept n ys) (sym names)))
-same_digest_set digest (Element name xs) (Text t) e = absurd (let z : Element name (attributes_kept name xs) ≡ Text t = e in cc)
-same_digest_set digest (Element name xs) (Comment m) e = absurd (let z : Element name (attributes_kept name xs) ≡ Comment m = e in cc)
+    subst (λ n. Element name (attributes_without_digest name (with_digest digest xs)) ≡ Element n (attributes_without_digest n (with_digest digest ys))) names
+    (same_set digest name xs ys (bytes_eq name (codes "template")) (let kept : attributes_without_digest name xs ≡ attributes_without_digest other ys = cc in kept ∙ ap (λ n. attributes_without_digest n ys) (sym names)))
+same_digest_set digest (Element name xs) (Text t) e = absurd (let z : Element name (attributes_without_digest name xs) ≡ Text t = e in cc)
+same_digest_set digest (Element name xs) (Comment m) e = absurd (let z : Element name (attributes_without_digest name xs) ≡ Comment m = e in cc)
 same_digest_set digest (Text t) d e = by d e where
-  by : (d : NewNode) → Text t ≡ undigested d → Text t ≡ undigested (digest_set digest d)
-  by (Element name xs) e = absurd (let z : Text t ≡ Element name (attributes_kept name xs) = e in cc)
+  by : (d : NewNode) → Text t ≡ content_without_digest d → Text t ≡ content_without_digest (digest_set digest d)
+  by (Element name xs) e = absurd (let z : Text t ≡ Element name (attributes_without_digest name xs) = e in cc)
   by (Text u) e = e
   by (Comment m) e = e
 same_digest_set digest (Comment m) d e = by d e where
-  by : (d : NewNode) → Comment m ≡ undigested d → Comment m ≡ undigested (digest_set digest d)
-  by (Element name xs) e = absurd (let z : Comment m ≡ Element name (attributes_kept name xs) = e in cc)
+  by : (d : NewNode) → Comment m ≡ content_without_digest d → Comment m ≡ content_without_digest (digest_set digest d)
+  by (Element name xs) e = absurd (let z : Comment m ≡ Element name (attributes_without_digest name xs) = e in cc)
   by (Text u) e = e
   by (Comment k) e = e

@@ -10,7 +10,7 @@ use Rattle.page_laws.proofs.Contexts.{Context, plug}
 use Rattle.page_laws.proofs.MachineEdits.{one_self}
 use Rattle.page_laws.proofs.NodesLemmas.{or_id-assoc}
 use Rattle.page_laws.proofs.PagesLemmas.{one}
-use Rattle.like_laws.specs.Alike.{AgreesAfter, Alike, both, ends, left, right, undigested}
+use Rattle.like_laws.specs.Alike.{AgreesAfter, Alike, both, ends, left, right, content_without_digest}
 use Rattle.like_laws.specs.Apart.{StandApart, ends_after}
 use Rattle.like_laws.proofs.AlikeBoundaries.{stands_after}
 use Rattle.like_laws.proofs.AlikeContexts.{AlikeContext, after, aside, before, here, not_found, under}
@@ -18,7 +18,7 @@ use Rattle.like_laws.proofs.ContentLemmas.{same_ids}
 
 -- The other way round.
 
-agrees_flipped : (c d : NewNode) (m n : Bool) → undigested c ≡ undigested d → AgreesAfter c m n → AgreesAfter d n m
+agrees_flipped : (c d : NewNode) (m n : Bool) → content_without_digest c ≡ content_without_digest d → AgreesAfter c m n → AgreesAfter d n m
 agrees_flipped c d m n s a id h = sym (a id (same_ids id c d s ∙ h))
 
 pub flipped : (m n : Bool) (f g : Forest) → Alike m n f g → Alike n m g f
@@ -109,7 +109,7 @@ module _ (id : List ℕ) (p c c' : ℕ) (x x' : NewNode) (kids kids' later rest 
   passed : (t : ℕ) (w : NewNode) (below l : Forest) → has_id id w ≡ false → element_with id below ≡ None → element_with id (tree t w below l) ≡ element_with id l
   passed t w below l h gone = ap (λ b. if b then Some t else or_id (element_with id below) (element_with id l)) h ∙ ap (λ o. or_id o (element_with id l)) gone
 
-  pub stays_found : (m n y y' : Bool) (C D : Context) → AlikeContext m n C D y y' → undigested x ≡ undigested x' → Alike false false kids kids'
+  pub stays_found : (m n y y' : Bool) (C D : Context) → AlikeContext m n C D y y' → content_without_digest x ≡ content_without_digest x' → Alike false false kids kids'
       → element_with id (plug C (tree c x kids later)) ≡ Some p → StaysFound id p C D later rest (plug D (tree c' x' kids' rest))
   stays_found m n y y' C D r s k e = record {
     first = first_by (found_before id C) refl (sym (found-plug id C (tree c x kids later)) ∙ e);
@@ -168,7 +168,7 @@ nodes_alike m (tree i c kids f) (tree j d others g) e =
     let same : c ≡ d = cc in
     let inner : nodes_of kids ≡ nodes_of others = cc in
     let later : nodes_of f ≡ nodes_of g = cc in
-    both m m i j c d kids others f g (ap undigested same) (λ id h. refl) (nodes_alike false kids others inner)
+    both m m i j c d kids others f g (ap content_without_digest same) (λ id h. refl) (nodes_alike false kids others inner)
     (subst (λ x. Alike (waits (Some c)) (waits (Some x)) f g) same (nodes_alike (waits (Some c)) f g later))
 
 -- What two alike forests have both: as many elements with an id directly after a marker, the same last node, and the same

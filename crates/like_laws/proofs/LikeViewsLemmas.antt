@@ -13,7 +13,7 @@ use Rattle.document_machine.specs.Views as view
 use Rattle.document_machine.specs.Views.{Levels, View, digest_after, is_container, is_left_out, joined_levels, joined_views, levels_at_boundary, levels_at_mark, levels_of, siblings_of, view_of, with_first}
 use Rattle.document_machine.specs.declared.status.BoundaryStatus.{BoundaryStatus}
 use Rattle.document_machine.specs.declared.status.BoundaryStatus.TheVariants as status
-use Rattle.like_laws.specs.Alike.{Alike, AreAlike, attributes_kept, both, ends, left, right, undigested}
+use Rattle.like_laws.specs.Alike.{Alike, AreAlike, attributes_without_digest, both, ends, left, right, content_without_digest}
 use Rattle.like_laws.specs.LikeViews.{without_digests}
 
 abbrev bare_levels : Levels → Levels
@@ -54,7 +54,7 @@ same_shown false name attributes k k' l l' inner outer =
     ap (λ v. with_first (view.element name attributes v) (bare_levels l)) (bare_siblings k k' inner)
     ∙ ap (with_first (view.element name attributes (without_digests (siblings_of k')))) outer
 
-all_kept : (name : List ℕ) (attributes : List Attr) → bytes_eq name (codes "template") ≡ false → attributes_kept name attributes ≡ attributes
+all_kept : (name : List ℕ) (attributes : List Attr) → bytes_eq name (codes "template") ≡ false → attributes_without_digest name attributes ≡ attributes
 all_kept name attributes e = ap (λ b. if b then filter (λ a. not (is_digest a)) attributes else attributes) e
 
 module _ (prefix : List ℕ) (at_top : Bool) where
@@ -65,7 +65,7 @@ module _ (prefix : List ℕ) (at_top : Bool) where
   template_left name attributes k l e =
       ap (λ b. if b || (at_top && is_container prefix name attributes) then l else with_first (view.element name attributes (siblings_of k)) l) e
 
-  same_element : (name : List ℕ) (one two : List Attr) (k k' l l' : Levels) (b : Bool) → bytes_eq name (codes "template") ≡ b → attributes_kept name one ≡ attributes_kept name two
+  same_element : (name : List ℕ) (one two : List Attr) (k k' l l' : Levels) (b : Bool) → bytes_eq name (codes "template") ≡ b → attributes_without_digest name one ≡ attributes_without_digest name two
       → bare_levels k ≡ bare_levels k' → bare_levels l ≡ bare_levels l' → bare_levels (shown name one k l) ≡ bare_levels (shown name two k' l')
   same_element name one two k k' l l' true is kept inner outer =
       ap bare_levels (template_left name one k l is) ∙ outer ∙ sym (ap bare_levels (template_left name two k' l' is))
@@ -74,23 +74,23 @@ module _ (prefix : List ℕ) (at_top : Bool) where
       same_shown (is_left_out prefix at_top name one) name one k k' l l' inner outer
       ∙ ap (λ zs. bare_levels (shown name zs k' l')) same
 
-same_content : (prefix : List ℕ) (at_top : Bool) (i j : ℕ) (c d : NewNode) (kids others f g : Forest) → undigested c ≡ undigested d
+same_content : (prefix : List ℕ) (at_top : Bool) (i j : ℕ) (c d : NewNode) (kids others f g : Forest) → content_without_digest c ≡ content_without_digest d
     → bare_levels (levels_of prefix false kids) ≡ bare_levels (levels_of prefix false others) → bare_levels (levels_of prefix at_top f) ≡ bare_levels (levels_of prefix at_top g)
     → bare_levels (levels_of prefix at_top (tree i c kids f)) ≡ bare_levels (levels_of prefix at_top (tree j d others g))
 same_content prefix at_top i j (Element name one) (Element other two) kids others f g e inner outer =
-    let whole : Element name (attributes_kept name one) ≡ Element other (attributes_kept other two) = e in
+    let whole : Element name (attributes_without_digest name one) ≡ Element other (attributes_without_digest other two) = e in
     let names : name ≡ other = cc in
     subst (λ n. bare_levels (levels_of prefix at_top (tree i (Element name one) kids f)) ≡ bare_levels (levels_of prefix at_top (tree j (Element n two) others g))) names
     (same_element prefix at_top name one two (levels_of prefix false kids) (levels_of prefix false others) (levels_of prefix at_top f) (levels_of prefix at_top g)
-    (bytes_eq name (codes "template")) refl (let kept : attributes_kept name one ≡ attributes_kept other two = cc in kept ∙ ap (λ n. attributes_kept n two) (sym names)) inner outer)
-same_content prefix at_top i j (Element name one) (Text t) kids others f g e inner outer = absurd (let z : Element name (attributes_kept name one) ≡ Text t = e in cc)
-same_content prefix at_top i j (Element name one) (Comment m) kids others f g e inner outer = absurd (let z : Element name (attributes_kept name one) ≡ Comment m = e in cc)
-same_content prefix at_top i j (Text t) (Element name one) kids others f g e inner outer = absurd (let z : Text t ≡ Element name (attributes_kept name one) = e in cc)
+    (bytes_eq name (codes "template")) refl (let kept : attributes_without_digest name one ≡ attributes_without_digest other two = cc in kept ∙ ap (λ n. attributes_without_digest n two) (sym names)) inner outer)
+same_content prefix at_top i j (Element name one) (Text t) kids others f g e inner outer = absurd (let z : Element name (attributes_without_digest name one) ≡ Text t = e in cc)
+same_content prefix at_top i j (Element name one) (Comment m) kids others f g e inner outer = absurd (let z : Element name (attributes_without_digest name one) ≡ Comment m = e in cc)
+same_content prefix at_top i j (Text t) (Element name one) kids others f g e inner outer = absurd (let z : Text t ≡ Element name (attributes_without_digest name one) = e in cc)
 same_content prefix at_top i j (Text t) (Text u) kids others f g e inner outer =
     let same : t ≡ u = (let z : Text t ≡ Text u = e in cc) in
     ap (with_first (view.text t)) outer ∙ ap (λ v. bare_levels (with_first (view.text v) (levels_of prefix at_top g))) same
 same_content prefix at_top i j (Text t) (Comment m) kids others f g e inner outer = absurd (let z : Text t ≡ Comment m = e in cc)
-same_content prefix at_top i j (Comment m) (Element name one) kids others f g e inner outer = absurd (let z : Comment m ≡ Element name (attributes_kept name one) = e in cc)
+same_content prefix at_top i j (Comment m) (Element name one) kids others f g e inner outer = absurd (let z : Comment m ≡ Element name (attributes_without_digest name one) = e in cc)
 same_content prefix at_top i j (Comment m) (Text t) kids others f g e inner outer = absurd (let z : Comment m ≡ Text t = e in cc)
 same_content prefix at_top i j (Comment m) (Comment k) kids others f g e inner outer =
     let same : m ≡ k = (let z : Comment m ≡ Comment k = e in cc) in

@@ -11,15 +11,15 @@ use Rattle.dom_forest.specs.declared.node.NewNode.TheVariants.{Element, Text, Co
 use Rattle.document_machine.specs.Edits.{waits}
 
 -- The attributes of an element, of a template without its digests.
-abbrev pub attributes_kept : List ℕ → List Attr → List Attr
-attributes_kept name attributes =
+abbrev pub attributes_without_digest : List ℕ → List Attr → List Attr
+attributes_without_digest name attributes =
     if bytes_eq name (codes "template") then filter (λ a. not (is_digest a)) attributes else attributes
 
 -- The content of a node, of a template without its digests.
-abbrev pub undigested : NewNode → NewNode
-undigested (Element name attributes) = Element name (attributes_kept name attributes)
-undigested (Text text) = Text text
-undigested (Comment mark) = Comment mark
+abbrev pub content_without_digest : NewNode → NewNode
+content_without_digest (Element name attributes) = Element name (attributes_without_digest name attributes)
+content_without_digest (Text text) = Text text
+content_without_digest (Comment mark) = Comment mark
 
 -- An element that has an id stands directly after a marker `$?` or `$!` in both documents or in neither.
 abbrev pub AgreesAfter : NewNode → Bool → Bool → Type 0
@@ -33,7 +33,7 @@ pub data Alike : Bool → Bool → Forest → Forest → Type 0 where
   ends : (m : Bool) → Alike m m empty empty
   left : (m n : Bool) (i : ℕ) (f g : Forest) → Alike false n f g → Alike m n (tree i (Comment Space) empty f) g
   right : (m n : Bool) (j : ℕ) (f g : Forest) → Alike m false f g → Alike m n f (tree j (Comment Space) empty g)
-  both : (m n : Bool) (i j : ℕ) (c d : NewNode) (kids others f g : Forest) → undigested c ≡ undigested d → AgreesAfter c m n
+  both : (m n : Bool) (i j : ℕ) (c d : NewNode) (kids others f g : Forest) → content_without_digest c ≡ content_without_digest d → AgreesAfter c m n
       → Alike false false kids others → Alike (waits (Some c)) (waits (Some d)) f g → Alike m n (tree i c kids f) (tree j d others g)
 
 -- Two documents are alike.

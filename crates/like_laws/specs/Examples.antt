@@ -14,8 +14,8 @@ comment mark later = tree 1 (Comment mark) empty later
 abbrev pub space : Forest → Forest
 space later = tree 2 (Comment Space) empty later
 
-abbrev pub said : List ℕ → Forest → Forest
-said text later = tree 3 (Text text) empty later
+abbrev pub text_before : List ℕ → Forest → Forest
+text_before text later = tree 3 (Text text) empty later
 
 -- `<template id="B:1"></template>`
 abbrev pub template_of : List ℕ → Forest → Forest

@@ -5,16 +5,16 @@ ghost use Rattle.dom_forest.specs.Forest.{empty};
 ghost use Rattle.dom_forest.specs.declared.node.Mark.TheVariants.{Client, Complete, Pending};
 ghost use Rattle.like_laws.specs.Alike.{AreAlike};
 ghost use Rattle.like_laws.specs.Apart.{StandApart};
-ghost use Rattle.like_laws.specs.Examples.{comment, container_of, digest_paragraph, digest_template, paragraph, plain_template, said, space, template_of};
+ghost use Rattle.like_laws.specs.Examples.{comment, container_of, digest_paragraph, digest_template, paragraph, plain_template, text_before, space, template_of};
 
 /// Separators between texts don't count, and join no texts. Directly after `$?` one counts before a template with an id, where
 /// `$RC` would miss the marker, and after `$!` at the end, where such a template may follow; before a template without an id,
 /// and after `$`, none counts. The digest of a template doesn't count, and that of another element does.
 pub(crate) fn documents_that_are_alike()
-    ensures texts { AreAlike (said (codes "a") (space (said (codes "b") empty)))
-        (said (codes "a") (said (codes "b") empty)) }
-    ensures joined { ¬ AreAlike (said (codes "a") (said (codes "b") empty))
-        (said (codes "ab") empty) }
+    ensures texts { AreAlike (text_before (codes "a") (space (text_before (codes "b") empty)))
+        (text_before (codes "a") (text_before (codes "b") empty)) }
+    ensures joined { ¬ AreAlike (text_before (codes "a") (text_before (codes "b") empty))
+        (text_before (codes "ab") empty) }
     ensures pending { ¬ AreAlike (comment Pending (space (template_of (codes "B:1") empty)))
         (comment Pending (template_of (codes "B:1") empty)) }
     ensures complete { AreAlike (comment Complete (space (template_of (codes "B:1") empty)))
@@ -35,5 +35,5 @@ pub(crate) fn what_stands_apart()
         (comment Complete (template_of (codes "P:1") empty)) }
     ensures last { ¬ StandApart [] false (container_of (comment Pending empty) empty) }
     ensures in_it { StandApart [] false
-        (container_of (comment Pending (said (codes "a") empty)) empty) }
+        (container_of (comment Pending (text_before (codes "a") empty)) empty) }
 {}

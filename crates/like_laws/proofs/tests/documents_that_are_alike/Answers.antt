@@ -6,7 +6,7 @@ use Rattle.dom_forest.specs.declared.node.NewNode.TheVariants.{Comment, Element,
 use Rattle.document_machine.specs.Views.{element, end, text}
 use Rattle.page_laws.specs.Pages.{id_attribute}
 use Rattle.like_laws.specs.Alike.{both, ends, left}
-use Rattle.like_laws.specs.Examples.{comment, digest_template, paragraph, digest_paragraph, plain_template, said, space, template_of}
+use Rattle.like_laws.specs.Examples.{comment, digest_template, paragraph, digest_paragraph, plain_template, text_before, space, template_of}
 use Rattle.like_laws.proofs.FoundLemmas.{count_after-alike, ends_after-alike}
 use Rattle.like_laws.proofs.LikeViewsLemmas.{same_views}
 use Rattle.like_laws.proofs.tests.documents_that_are_alike.Goals as goal
@@ -20,10 +20,10 @@ two_paragraphs e = cc
 pub returns : goal.returns
 returns c = record {
   texts =
-      both false false 3 3 (Text (codes "a")) (Text (codes "a")) empty empty (space (said (codes "b") empty)) (said (codes "b") empty) refl (λ id h. refl) (ends false)
-      (left false false 2 (said (codes "b") empty) (said (codes "b") empty)
+      both false false 3 3 (Text (codes "a")) (Text (codes "a")) empty empty (space (text_before (codes "b") empty)) (text_before (codes "b") empty) refl (λ id h. refl) (ends false)
+      (left false false 2 (text_before (codes "b") empty) (text_before (codes "b") empty)
       (both false false 3 3 (Text (codes "b")) (Text (codes "b")) empty empty empty empty refl (λ id h. refl) (ends false) (ends false)));
-  joined = λ r. two_texts (codes "a") (codes "b") (codes "ab") (same_views [] (said (codes "a") (said (codes "b") empty)) (said (codes "ab") empty) r);
+  joined = λ r. two_texts (codes "a") (codes "b") (codes "ab") (same_views [] (text_before (codes "a") (text_before (codes "b") empty)) (text_before (codes "ab") empty) r);
   pending = λ r. omega (arith, count_after-alike (codes "B:1") false false (comment Pending (space (template_of (codes "B:1") empty))) (comment Pending (template_of (codes "B:1") empty)) r);
   complete =
       both false false 1 1 (Comment Complete) (Comment Complete) empty empty (space (template_of (codes "B:1") empty)) (template_of (codes "B:1") empty) refl (λ id h. refl) (ends false)
