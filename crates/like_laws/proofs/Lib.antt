@@ -8,3 +8,4 @@ pub mod AlikeInstructions
 pub mod AlikeSteps
 pub mod LikeViewsLemmas
 pub mod StreamedApart
+pub mod PagesAlike

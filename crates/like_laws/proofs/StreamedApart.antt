@@ -57,10 +57,10 @@ apart-joined prefix m (tree i c kids later) b p q = (p.0, p.1, p.2, apart-joined
 
 -- A page
 
-abbrev forest : List ℕ → Page → Forest
+abbrev pub forest : List ℕ → Page → Forest
 forest prefix p = forest_of_nodes (page_nodes prefix p)
 
-to_end_is : (content later : Nodes) → forest_of_nodes (nodes_to_end content later) ≡ joined_forests (forest_of_nodes content) (tree 0 (Comment End) empty (forest_of_nodes later))
+pub to_end_is : (content later : Nodes) → forest_of_nodes (nodes_to_end content later) ≡ joined_forests (forest_of_nodes content) (tree 0 (Comment End) empty (forest_of_nodes later))
 to_end_is content later = unnumbered-joined content (node (Comment End) none later)
 
 ends_to_end : (m : Bool) (content later : Nodes) → ends_after m (forest_of_nodes (nodes_to_end content later)) ≡ ends_after false (forest_of_nodes later)

@@ -3,3 +3,4 @@ pub mod Apart
 pub mod Examples
 pub mod LikePages
 pub mod LikeViews
+pub mod PlainPages

@@ -8,12 +8,13 @@ ghost use Rattle.document_machine.specs.Documents.{Runs};
 ghost use Rattle.document_machine.specs.Running.{PageState, on_document};
 ghost use Rattle.document_machine.specs.Views.{view_of};
 ghost use Rattle.page_laws.specs.DocumentEdits.{IsStreamed};
-ghost use Rattle.page_laws.specs.Documents.{StreamedDocument};
+ghost use Rattle.page_laws.specs.Documents.{StreamedDocument, edited_pages};
 ghost use Rattle.page_laws.specs.Nodes.{nodes_of};
 ghost use Rattle.like_laws.specs.Alike.{AreAlike};
 ghost use Rattle.like_laws.specs.Apart.{StandApart};
 ghost use Rattle.like_laws.specs.LikePages.{AlikePages, IsOpenPage, MovesApart, RunsAlike};
 ghost use Rattle.like_laws.specs.LikeViews.{without_digests};
+ghost use Rattle.like_laws.specs.PlainPages.{plain_page};
 
 /// Documents of the same nodes are alike, whatever the ids of these, and so are alike documents the other way round.
 pub fn laws_of_likeness()
@@ -32,6 +33,13 @@ pub fn laws_of_alike_runs()
         Runs prefix start bytes end → IsOpenPage start → IsOpenPage end }
     ensures resumed { (dom : DomState) (known : SentFunctions) → IsNumbered dom →
         IsOpenPage (on_document dom known) }
+{}
+
+/// Streamed documents are alike whose pages are equal without separators and digests, container by container.
+pub fn laws_of_alike_documents()
+    ensures { (prefix : List ℕ) (d e : StreamedDocument) (dom other : DomState) →
+        IsStreamed prefix d dom → IsStreamed prefix e other →
+        edited_pages plain_page d ≡ edited_pages plain_page e → AreAlike dom.forest other.forest }
 {}
 
 /// In a streamed document what instructions move stands apart from markers.

@@ -1,11 +1,13 @@
 //! Worked examples of the definitions.
 
-ghost use Rattle.std.specs.Prelude.{codes, [], false};
+ghost use Rattle.std.specs.Prelude.{◌≡◌, codes, [], None, false};
 ghost use Rattle.dom_forest.specs.Forest.{empty};
 ghost use Rattle.dom_forest.specs.declared.node.Mark.TheVariants.{Client, Complete, Pending};
+ghost use Rattle.page_laws.specs.Pages.{client, complete, nothing, pending, placeholder, separator, text};
 ghost use Rattle.like_laws.specs.Alike.{AreAlike};
 ghost use Rattle.like_laws.specs.Apart.{StandApart};
 ghost use Rattle.like_laws.specs.Examples.{comment, container_of, digest_paragraph, digest_template, paragraph, plain_template, text_before, space, template_of};
+ghost use Rattle.like_laws.specs.PlainPages.{plain_page};
 
 /// Separators between texts don't count, and join no texts. Directly after `$?` one counts before a template with an id, where
 /// `$RC` would miss the marker, and after `$!` at the end, where such a template may follow; before a template without an id,
@@ -36,4 +38,14 @@ pub(crate) fn what_stands_apart()
     ensures last { ¬ StandApart [] false (container_of (comment Pending empty) empty) }
     ensures in_it { StandApart [] false
         (container_of (comment Pending (text_before (codes "a") empty)) empty) }
+{}
+
+/// Separators go wherever they stand, and join no texts; a digest goes, and the ids of placeholders and boundaries stay.
+pub(crate) fn pages_without_separators()
+    ensures texts { plain_page (text (codes "a") (separator (text (codes "b") nothing)))
+        ≡ text (codes "a") (text (codes "b") nothing) }
+    ensures inside { plain_page (complete (separator (placeholder 1 nothing)) (separator nothing))
+        ≡ complete (placeholder 1 nothing) nothing }
+    ensures digest { plain_page (client None (codes "e") (pending 2 nothing nothing) nothing)
+        ≡ client None [] (pending 2 nothing nothing) nothing }
 {}
