@@ -1,14 +1,16 @@
 -- The views of alike forests are the same but for digests.
-use Rattle.std.proofs.Common.{◌≡◌, ℕ, ◌&&◌, ◌||◌, Bool, true, false, if◌then◌else◌, List, [], ◌∷◌, Some, codes, filter, map, not, refl, sym, ap, ◌∙◌, subst}
+use Rattle.std.proofs.Common.{◌≡◌, ◌==◌, ◌++◌, None, arith, ℕ, ◌&&◌, ◌||◌, Bool, true, false, if◌then◌else◌, List, [], ◌∷◌, Some, codes, filter, map, not, refl, sym, ap, ◌∙◌, subst}
 use Rattle.std.specs.Str.{bytes_eq}
 use Rattle.fizz_text.specs.declared.attribute.Attr.{Attr}
 use Rattle.dom_forest.specs.Edits.{is_digest}
+use Rattle.dom_forest.specs.declared.document.DocNode.TheVariants as doc
 use Rattle.dom_forest.specs.Forest.{Forest, tree}
 use Rattle.dom_forest.specs.declared.node.Mark.{Mark}
 use Rattle.dom_forest.specs.declared.node.Mark.TheVariants.{Complete, Pending, Client, End, Space}
 use Rattle.dom_forest.specs.declared.node.NewNode.{NewNode}
 use Rattle.dom_forest.specs.declared.node.NewNode.TheVariants.{Element, Text, Comment}
 use Rattle.document_machine.specs.Edits.{waits}
+use Rattle.document_machine.specs.Settled.{is_pending, nodes_of, number_of, settled_of}
 use Rattle.document_machine.specs.Views as view
 use Rattle.document_machine.specs.Views.{Levels, View, digest_after, is_container, is_left_out, joined_levels, joined_views, levels_at_boundary, levels_at_mark, levels_of, siblings_of, view_of, with_first}
 use Rattle.document_machine.specs.declared.status.BoundaryStatus.{BoundaryStatus}
@@ -105,3 +107,26 @@ same_levels prefix _ _ _ _ (both m n i j c d kids others f g s a k l) at_top =
 
 pub same_views : (prefix : List ℕ) (f g : Forest) → AreAlike f g → without_digests (view_of prefix f) ≡ without_digests (view_of prefix g)
 same_views prefix f g r = bare_siblings (levels_of prefix true f) (levels_of prefix true g) (same_levels prefix false false f g r true)
+
+-- A settled document says nothing of digests.
+
+number_of-without : (of_kind : BoundaryStatus → Bool) (v : View) → number_of of_kind (without_digests v) ≡ number_of of_kind v
+number_of-without of_kind view.end = refl
+number_of-without of_kind (view.text t l) = number_of-without of_kind l
+number_of-without of_kind (view.element n attributes k l) = omega (arith, number_of-without of_kind k, number_of-without of_kind l)
+number_of-without of_kind (view.boundary s d k l) = omega (arith, number_of-without of_kind k, number_of-without of_kind l)
+
+nodes_of-without : (v : View) → nodes_of (without_digests v) ≡ nodes_of v
+nodes_of-without view.end = refl
+nodes_of-without (view.text t l) = ap (λ ns. doc.Text t ∷ ns) (nodes_of-without l)
+nodes_of-without (view.element n attributes k l) =
+    ap (λ ns. doc.Element n attributes ns ∷ nodes_of (without_digests l)) (nodes_of-without k) ∙ ap (λ ns. doc.Element n attributes (nodes_of k) ∷ ns) (nodes_of-without l)
+nodes_of-without (view.boundary s d k l) = ap (λ ns. ns ++ nodes_of (without_digests l)) (nodes_of-without k) ∙ ap (λ ns. nodes_of k ++ ns) (nodes_of-without l)
+
+settled_of-without : (v : View) → settled_of (without_digests v) ≡ settled_of v
+settled_of-without v =
+    ap (λ n. if n == 0 then Some (nodes_of (without_digests v)) else None) (number_of-without is_pending v)
+    ∙ ap (λ ns. if number_of is_pending v == 0 then Some ns else None) (nodes_of-without v)
+
+pub same_settled : (prefix : List ℕ) (f g : Forest) → AreAlike f g → settled_of (view_of prefix f) ≡ settled_of (view_of prefix g)
+same_settled prefix f g r = sym (settled_of-without (view_of prefix f)) ∙ ap settled_of (same_views prefix f g r) ∙ settled_of-without (view_of prefix g)

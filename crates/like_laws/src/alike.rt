@@ -6,6 +6,7 @@ ghost use Rattle.dom_forest.specs.Forest.{Forest};
 ghost use Rattle.fizz_instructions.specs.declared.instruction.SentFunctions.{SentFunctions};
 ghost use Rattle.document_machine.specs.Documents.{Runs};
 ghost use Rattle.document_machine.specs.Running.{PageState, on_document};
+ghost use Rattle.document_machine.specs.Settled.{settled_of};
 ghost use Rattle.document_machine.specs.Views.{view_of};
 ghost use Rattle.page_laws.specs.DocumentEdits.{IsStreamed};
 ghost use Rattle.page_laws.specs.Documents.{StreamedDocument, edited_pages};
@@ -48,8 +49,11 @@ pub fn laws_of_apart_documents()
         StandApart prefix false dom.forest }
 {}
 
-/// The views of alike documents are the same but for the digests of their boundaries.
+/// The views of alike documents are the same but for the digests of their boundaries, and so their settled documents, where
+/// they have them, are the same.
 pub fn laws_of_alike_views()
-    ensures { (prefix : List ℕ) (f g : Forest) → AreAlike f g →
+    ensures views { (prefix : List ℕ) (f g : Forest) → AreAlike f g →
         without_digests (view_of prefix f) ≡ without_digests (view_of prefix g) }
+    ensures settled { (prefix : List ℕ) (f g : Forest) → AreAlike f g →
+        settled_of (view_of prefix f) ≡ settled_of (view_of prefix g) }
 {}
