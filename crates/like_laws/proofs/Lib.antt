@@ -1,0 +1,11 @@
+pub mod ContentLemmas
+pub mod AlikeContexts
+pub mod AlikeBoundaries
+pub mod AlikeEdits
+pub mod AlikePaths
+pub mod FoundLemmas
+pub mod AlikeInstructions
+pub mod AlikeSteps
+pub mod LikeViewsLemmas
+pub mod StreamedApart
+pub mod PagesAlike
