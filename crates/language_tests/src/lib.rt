@@ -1,0 +1,8 @@
+//! Tests of component files from their text on: they go through several crates, and each shows what a page's author
+//! sees.
+#![tactic(auto)]
+
+#[cfg(test)]
+mod checks;
+#[cfg(test)]
+mod scripts;
