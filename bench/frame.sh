@@ -10,6 +10,8 @@ time_over() {
     trap 'rm -rf "$work"' EXIT
     mkdir -p "$work/crates/$program/src"
     for crate in "$@"; do
+        # A library of the kit has no folder here.
+        [ -d "$root/crates/$crate" ] || continue
         cp -r "$root/crates/$crate" "$work/crates/$crate"
         grep "^$crate[ :]" "$root/crates.txt"
     done > "$work/crates.txt"
