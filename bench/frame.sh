@@ -2,8 +2,7 @@
 root=$(cd "$(dirname "$0")/.." && pwd)
 
 # time_over PROGRAM CRATE..: in a temporary folder, over copies of the crates with their lines of crates.txt, builds
-# and runs the program whose text is the standard input. The program uses these crates, of which those that aren't here
-# are the kit's. With step=try it isn't proved.
+# and runs the program whose text is the standard input. The program uses these crates. With step=try it isn't proved.
 time_over() {
     program=$1
     shift
@@ -11,10 +10,10 @@ time_over() {
     trap 'rm -rf "$work"' EXIT
     mkdir -p "$work/crates/$program/src"
     for crate in "$@"; do
-        if [ -d "$root/crates/$crate" ]; then
-            cp -r "$root/crates/$crate" "$work/crates/$crate"
-            grep "^$crate[ :]" "$root/crates.txt"
-        fi
+        # A library of the kit has no folder here.
+        [ -d "$root/crates/$crate" ] || continue
+        cp -r "$root/crates/$crate" "$work/crates/$crate"
+        grep "^$crate[ :]" "$root/crates.txt"
     done > "$work/crates.txt"
     printf "%s: %s\n" "$program" "$*" >> "$work/crates.txt"
     cat > "$work/crates/$program/src/main.rt"
