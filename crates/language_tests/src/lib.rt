@@ -5,4 +5,8 @@
 #[cfg(test)]
 mod checks;
 #[cfg(test)]
+mod pages;
+#[cfg(test)]
 mod scripts;
+#[cfg(test)]
+mod trees;
