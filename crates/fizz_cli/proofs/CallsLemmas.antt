@@ -8,7 +8,7 @@ use Rattle.fizz_cli.specs.Calls.{IsCause, IsCutOff, IsDone, IsKept, IsRefusalSta
 use Rattle.fizz_cli.specs.Commands.{command_of}
 use Rattle.fizz_cli.specs.Ends.{EndsAs, SendsAll, Serves, WritesAll}
 use Rattle.fizz_cli.specs.Notes.{note_of, usage_note}
-use Rattle.fizz_cli.specs.Refusals.{plain_refusal, status_of}
+use Rattle.fizz_cli.specs.Refusals.{status_of}
 use Rattle.fizz_cli.specs.Reports.{AppendsPrefix, Change, FilesReport, HasFilesFault, HasSinkFault, SinkReport}
 use Rattle.fizz_cli.specs.Serving.{Accepts, Completes, IsPart, IsPrefixOf, Leaves, MayWrite, Refuses}
 use Rattle.fizz_cli.specs.Steps.{ReadsFiles, stop_of}
@@ -110,17 +110,6 @@ writes {T} outputs command files out output result completes part r w =
 
 -- statuses
 
-status_of-plain : (refusal : Refusal) → status_of (plain_refusal refusal) ≡ status_of refusal
-status_of-plain (CannotRead name) = refl
-status_of-plain (File name fault) = refl
-status_of-plain (ShellFailed digest) = refl
-status_of-plain (ShellPostponed resource) = refl
-status_of-plain (CannotWrite name) = refl
-status_of-plain (StateTooLong size) = refl
-
-same_status : (a b : Refusal) → plain_refusal a ≡ plain_refusal b → status_of a ≡ status_of b
-same_status a b e = sym (status_of-plain a) ∙ (ap status_of e ∙ status_of-plain b)
-
 status_apart : (n : ℕ) → (n ≡ 0) ⊎ ((n ≡ 7) ⊎ (n ≡ 8)) → IsRefusalStatus n → ⊥
 status_apart n h r = by_cases r.0 h r.1
   where
@@ -136,7 +125,7 @@ status_apart n h r = by_cases r.0 h r.1
 pub record CommandLaws (command : Command) : Type 0 where
   pub accepted : (at : Contents) (refusal : Refusal) → Accepts at command → Refuses at command ⊥ refusal → ⊥
   pub one : (at : Contents) (a b : Refusal) → Refuses at command ⊥ a → Refuses at command ⊥ b →
-      plain_refusal a ≡ plain_refusal b
+      a ≡ b
 
 -- the command is done
 
@@ -248,7 +237,7 @@ call_told {T} command files out notes served refusal status laws is s sent =
       cut = λ h. absurd (refused_status (inr h) all.0);
       only = inr (inr (inr (refusal, all.0)));
       accepted = λ at told quiet silent memory a. absurd (laws.accepted at refusal a (at_rest ends.0 at told quiet));
-      called_for = λ at told quiet silent memory other r. all.0 ∙ same_status refusal other (laws.one at refusal other (at_rest ends.0 at told quiet) r);
+      called_for = λ at told quiet silent memory other r. all.0 ∙ ap status_of (laws.one at refusal other (at_rest ends.0 at told quiet) r);
     }
     by_result ends (inr (inl failed)) = record {
       others = s.others;

@@ -1,5 +1,5 @@
 -- Component files as programs: one is a program or refused, and for one thing at most.
-use Rattle.std.proofs.Common.{◌≡◌, ℕ, ◌⊎◌, inl, inr, List, [], ◌∷◌, ◌++◌, map, Option, Some, None, Err, refl, sym, ap, ap₂, ◌∙◌, subst, append_assoc, append-nil}
+use Rattle.std.proofs.Common.{◌≡◌, ℕ, ◌⊎◌, inl, inr, List, [], ◌∷◌, ◌++◌, map, Option, Some, None, Err, refl, sym, ap, ap₂, ◌∙◌, subst, append-nil}
 use Rattle.std.proofs.lemmas.List.{map-append}
 use Rattle.std.specs.Str.{IsUtf8, IsValidUpTo}
 use Rattle.jsx_lex.specs.FaultTable.{IsFaultAt}
@@ -9,22 +9,20 @@ use Rattle.jsx_lex.specs.declared.fault.LexKind.{LexKind}
 use Rattle.jsx_lex.specs.declared.token.Token.{Token}
 use Rattle.jsx_lex.specs.declared.word.Word.{Word}
 use Rattle.jsx_syntax.specs.Grammar.{SpellsFile}
-use Rattle.jsx_syntax.specs.Parsing.{HasCause, IsRefusedAt, IsSpelled, place_of}
+use Rattle.jsx_syntax.specs.Parsing.{HasCause, IsRefusedAt, IsSpelled}
 use Rattle.jsx_syntax.specs.declared.fault.SyntaxFault.{SyntaxFault as SyntaxFound}
 use Rattle.jsx_syntax.specs.declared.fault.SyntaxFault.TheVariants as syntax
 use Rattle.fizz_cli.specs.ProgramFaults.{syntax_fault}
 use Rattle.fizz_cli.specs.Steps.{AcceptsOrRefuses}
 use Rattle.fizz_cli.specs.declared.stop.OrMemory.{OrMemory}
-use Rattle.jsx_syntax.specs.Refusals.{IsAlive, IsDead}
+use Rattle.jsx_syntax.specs.Refusals.{IsDead}
 use Rattle.jsx_syntax.specs.Rules.{IsApp}
 use Rattle.jsx_syntax.specs.declared.fault.Wanted.{Wanted}
-use Rattle.jsx_syntax.specs.declared.fault.Wanted.TheVariants as wanted
 use Rattle.jsx_syntax.specs.declared.file.File.{File}
 use Rattle.jsx_check.specs.Checks.{IsFaultOf}
 use Rattle.jsx_check.specs.declared.fault.CheckFault.{CheckFault}
 use Rattle.jsx_check.specs.declared.fault.CheckFault.TheVariants as check
 use Rattle.fizz_cli.specs.ProgramFiles.{AcceptsProgram, HasCheckFault, HasSyntaxFault, IsProgram, IsTextOf, RefusesProgram, RefusesProgramBytes, most_program_bytes}
-use Rattle.fizz_cli.specs.Refusals.{plain_program}
 use Rattle.fizz_cli.specs.declared.refusal.FileFault.TheVariants.{Program}
 use Rattle.fizz_cli.specs.declared.refusal.ProgramFault.{ProgramFault}
 use Rattle.fizz_cli.specs.declared.refusal.ProgramFault.TheVariants.{NotUtf8, LexFault, SyntaxFault, TooManyComponents, UnknownName, UnknownElement, UnknownAttribute, TwiceDefined, UsedBeforeDefined, FallbackNotPlain, NoApp, TooDeep, TooLarge, Unbuilt}
@@ -38,57 +36,11 @@ pub record ProgramLaws : Type 0 where
   pub one_lex : (text : List ℕ) (m n : ℕ) (k l : LexKind) → IsFaultAt text m k → IsFaultAt text n l → (m ≡ n) × (k ≡ l)
   pub not_both : (text : List ℕ) (tokens : List Token) (at : ℕ) (kind : LexKind) → AreTokens text tokens → IsFaultAt text at kind → ⊥
   pub one_file : (words : List Word) (a b : File) → SpellsFile words a → SpellsFile words b → a ≡ b
+  pub one_syntax : (text : List ℕ) (tokens : List Token) (m n : ℕ) (v w : Wanted) → HasCause text tokens (syntax.Bad m v)
+      → HasCause text tokens (syntax.Bad n w) → (m ≡ n) × (v ≡ w)
   pub one_check : (file : File) (a b : CheckFault) → IsFaultOf file a → IsFaultOf file b →
       (a ≡ check.OutOfMemory) ⊎ (b ≡ check.OutOfMemory) ⊎ (a ≡ b)
   pub no_check : (file : File) (a : CheckFault) → IsApp file → IsFaultOf file a → a ≡ check.OutOfMemory
-
--- Two splits of one list: the same, or one of them later.
-data Splits (b a b' a' : List Token) : Type 0 where
-  same : b ≡ b' → a ≡ a' → Splits b a b' a'
-  later : (t : Token) (mid : List Token) → a ≡ t ∷ (mid ++ a') → b' ≡ b ++ t ∷ mid → Splits b a b' a'
-  earlier : (t : Token) (mid : List Token) → a' ≡ t ∷ (mid ++ a) → b ≡ b' ++ t ∷ mid → Splits b a b' a'
-
-same_head : (x y : Token) (xs ys : List Token) → x ∷ xs ≡ y ∷ ys → x ≡ y
-same_head x y xs ys e = cc
-
-same_tail : (x y : Token) (xs ys : List Token) → x ∷ xs ≡ y ∷ ys → xs ≡ ys
-same_tail x y xs ys e = cc
-
-one_more : (x y : Token) (b a b' a' : List Token) → x ≡ y → Splits b a b' a' → Splits (x ∷ b) a (y ∷ b') a'
-one_more x y b a b' a' h (same p q) = same (ap₂ (λ (z : Token) (zs : List Token). z ∷ zs) h p) q
-one_more x y b a b' a' h (later t mid p q) = later t mid p (ap₂ (λ (z : Token) (zs : List Token). z ∷ zs) (sym h) q)
-one_more x y b a b' a' h (earlier t mid p q) = earlier t mid p (ap₂ (λ (z : Token) (zs : List Token). z ∷ zs) h q)
-
-splits : (b a b' a' : List Token) → b ++ a ≡ b' ++ a' → Splits b a b' a'
-splits [] a [] a' e = same refl e
-splits [] a (y ∷ b') a' e = later y b' e refl
-splits (x ∷ b) a [] a' e = earlier x b (sym e) refl
-splits (x ∷ b) a (y ∷ b') a' e =
-    one_more x y b a b' a' (same_head x y (b ++ a) (b' ++ a') e) (splits b a b' a' (same_tail x y (b ++ a) (b' ++ a') e))
-
--- After the first word that no file has there, no words are those of a file's beginning.
-regrouped : (text : List ℕ) (b mid : List Token) (t : Token) (more : List Word)
-    → words_of text (b ++ t ∷ mid) ++ more ≡ words_of text b ++ word_at text t ∷ (words_of text mid ++ more)
-regrouped text b mid t more =
-    ap (λ (ws : List Word). ws ++ more) (map-append (word_at text) b (t ∷ mid))
-    ∙ append_assoc (words_of text b) (word_at text t ∷ words_of text mid) more
-
-dead_later : (text : List ℕ) (b a b' a' mid : List Token) (t : Token) → a ≡ t ∷ (mid ++ a') → b' ≡ b ++ t ∷ mid
-    → IsDead (words_of text b) (words_of text a) → IsAlive (words_of text b') → ⊥
-dead_later text b a b' a' mid t e f dead alive =
-    let now : IsDead (words_of text b) (word_at text t ∷ words_of text (mid ++ a')) =
-    subst (λ (ts : List Token). IsDead (words_of text b) (words_of text ts)) e dead in
-    now (words_of text mid ++ alive.more) alive.file
-    (subst (λ (ws : List Word). SpellsFile ws alive.file)
-    (ap (λ (ts : List Token). words_of text ts ++ alive.more) f ∙ regrouped text b mid t alive.more) alive.spells)
-
-one_place : (text : List ℕ) (tokens : List Token) (m n : ℕ) → IsRefusedAt text tokens m → IsRefusedAt text tokens n → m ≡ n
-one_place text tokens m n p q = by_splits (splits p.before p.after q.before q.after (sym p.split ∙ q.split))
-  where
-    by_splits : Splits p.before p.after q.before q.after → m ≡ n
-    by_splits (same e f) = p.place_is ∙ ap (place_of text) f ∙ sym q.place_is
-    by_splits (later t mid e f) = absurd (dead_later text p.before p.after q.before q.after mid t e f p.refused.dead q.refused.alive)
-    by_splits (earlier t mid e f) = absurd (dead_later text q.before q.after p.before p.after mid t e f q.refused.dead p.refused.alive)
 
 -- Words of a file aren't refused.
 dead_here : (text : List ℕ) (b a : List Token) (file : File) → IsDead (words_of text b) (words_of text a)
@@ -200,33 +152,33 @@ module _ (laws : ProgramLaws) where
       not_refused bytes p.tokens m file p.spelled
       (subst (λ (ts : List Token). IsRefusedAt bytes ts m) (laws.one_tokens bytes c.tokens p.tokens c.are_tokens p.are_tokens) c.cause.0)
 
-  one_parsed : (bytes : List ℕ) (m n : ℕ) (v w : Wanted) → HasSyntaxFault bytes m v → HasSyntaxFault bytes n w → m ≡ n
+  one_parsed : (bytes : List ℕ) (m n : ℕ) (v w : Wanted) → HasSyntaxFault bytes m v → HasSyntaxFault bytes n w → (m ≡ n) × (v ≡ w)
   one_parsed bytes m n v w p q =
-      one_place bytes p.tokens m n p.cause.0
-      (subst (λ (ts : List Token). IsRefusedAt bytes ts n) (laws.one_tokens bytes q.tokens p.tokens q.are_tokens p.are_tokens) q.cause.0)
+      laws.one_syntax bytes p.tokens m n v w p.cause
+      (subst (λ (ts : List Token). HasCause bytes ts (syntax.Bad n w)) (laws.one_tokens bytes q.tokens p.tokens q.are_tokens p.are_tokens) q.cause)
 
-  one_cause : (bytes : List ℕ) (a b : ProgramFault) → ProgramCause bytes a → ProgramCause bytes b → plain_program a ≡ plain_program b
-  one_cause bytes a b (cut m e p) (cut n f q) = ap plain_program e ∙ (ap NotUtf8 (same_valid bytes m n p q) ∙ sym (ap plain_program f))
+  one_cause : (bytes : List ℕ) (a b : ProgramFault) → ProgramCause bytes a → ProgramCause bytes b → a ≡ b
+  one_cause bytes a b (cut m e p) (cut n f q) = e ∙ (ap NotUtf8 (same_valid bytes m n p q) ∙ sym f)
   one_cause bytes a b (cut m e p) (lexed n k f utf8 q) = absurd (not_cut bytes m utf8 p)
   one_cause bytes a b (cut m e p) (parsed n w f q) = absurd (not_cut bytes m q.utf8 p)
   one_cause bytes a b (cut m e p) (checked g f q) = absurd (not_cut bytes m q.spells.utf8 p)
   one_cause bytes a b (lexed m j e utf8 p) (cut n f q) = absurd (not_cut bytes n utf8 q)
   one_cause bytes a b (lexed m j e utf8 p) (lexed n k f also q) =
-      let one = laws.one_lex bytes m n j k p q in ap plain_program e ∙ (ap₂ LexFault one.0 one.1 ∙ sym (ap plain_program f))
+      let one = laws.one_lex bytes m n j k p q in e ∙ (ap₂ LexFault one.0 one.1 ∙ sym f)
   one_cause bytes a b (lexed m j e utf8 p) (parsed n w f q) = absurd (has_tokens bytes q.tokens m j q.are_tokens p)
   one_cause bytes a b (lexed m j e utf8 p) (checked g f q) = absurd (has_tokens bytes q.spells.tokens m j q.spells.are_tokens p)
   one_cause bytes a b (parsed m v e p) (cut n f q) = absurd (not_cut bytes n p.utf8 q)
   one_cause bytes a b (parsed m v e p) (lexed n k f utf8 q) = absurd (has_tokens bytes p.tokens n k p.are_tokens q)
   one_cause bytes a b (parsed m v e p) (parsed n w f q) =
-      ap plain_program e ∙ (ap (λ i. SyntaxFault i wanted.Token) (one_parsed bytes m n v w p q) ∙ sym (ap plain_program f))
+      let one = one_parsed bytes m n v w p q in e ∙ (ap₂ SyntaxFault one.0 one.1 ∙ sym f)
   one_cause bytes a b (parsed m v e p) (checked g f q) = absurd (parsed_text bytes m v q.file p q.spells)
   one_cause bytes a b (checked g e p) (cut n f q) = absurd (not_cut bytes n p.spells.utf8 q)
   one_cause bytes a b (checked g e p) (lexed n k f utf8 q) = absurd (has_tokens bytes p.spells.tokens n k p.spells.are_tokens q)
   one_cause bytes a b (checked g e p) (parsed n w f q) = absurd (parsed_text bytes n w p.file q p.spells)
-  one_cause bytes a b (checked g e p) (checked h f q) = ap plain_program (one_checked bytes a b g h e f p q)
+  one_cause bytes a b (checked g e p) (checked h f q) = one_checked bytes a b g h e f p q
 
   pub one_program_fault : (bytes : List ℕ) (a b : ProgramFault) → RefusesProgramBytes bytes a → RefusesProgramBytes bytes b
-      → plain_program a ≡ plain_program b
+      → a ≡ b
   one_program_fault bytes a b p q = one_cause bytes a b (program_cause bytes a p) (program_cause bytes b q)
 
 syntax_refusal : (A : Type 0) (accepts : A → Type 0) (bytes : List ℕ) (tokens : List Token) (fault : SyntaxFound) → IsUtf8 bytes

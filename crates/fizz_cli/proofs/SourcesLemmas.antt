@@ -1,25 +1,23 @@
 -- The two files of a page: they are accepted or refused, and for one thing at most.
-use Rattle.std.proofs.Common.{◌≡◌, ℕ, ◌≤◌, List, inl, inr, Option, Result, Ok, Err, refl, sym, ◌∙◌, ap, ap₂, subst, arith}
+use Rattle.std.proofs.Common.{◌≡◌, ℕ, ◌≤◌, List, inl, inr, Option, Result, Ok, Err, refl, ◌∙◌, ap, ap₂, subst, arith}
 use Rattle.fizz_outside.specs.FileContents.{Contents}
 use Rattle.fizz_outside.specs.Faults.{FaultCounted}
 use Rattle.jsx_syntax.specs.declared.file.File.{File}
 use Rattle.settle_script.specs.declared.event.Event.{Event}
 use Rattle.fizz_cli.specs.ProgramFiles.{AcceptsProgram, RefusesProgram, RefusesProgramBytes, most_program_bytes}
-use Rattle.fizz_cli.specs.Refusals.{plain_refusal}
 use Rattle.fizz_cli.specs.Reports.{files_change}
 use Rattle.fizz_cli.specs.ScriptFiles.{AcceptsScript, RefusesScript, RefusesScriptBytes, most_script_bytes}
 use Rattle.fizz_cli.specs.Sources.{AcceptsSources, RefusesSources}
 use Rattle.fizz_cli.specs.Steps.{AcceptsOrRefuses, FirstOrNext, ReadsFiles}
 use Rattle.fizz_cli.specs.declared.refusal.FileFault.TheVariants.{Program, Script}
-use Rattle.fizz_cli.specs.declared.refusal.ProgramFault.{ProgramFault}
 use Rattle.fizz_cli.specs.declared.refusal.Refusal.{Refusal}
-use Rattle.fizz_cli.specs.declared.refusal.Refusal.TheVariants.{CannotRead, File as FileRefused}
+use Rattle.fizz_cli.specs.declared.refusal.Refusal.TheVariants.{CannotRead}
 use Rattle.fizz_cli.specs.declared.steps.sources.Sources.{Sources}
 use Rattle.fizz_cli.specs.declared.stop.OrMemory.{OrMemory}
 use Rattle.fizz_cli.specs.declared.stop.OrMemory.TheVariants.{Fault, NoMemory}
 use Rattle.fizz_cli.proofs.ProgramsLemmas.{ProgramLaws, one_program, one_program_fault, program_excludes}
 use Rattle.fizz_cli.proofs.RefusalsLemmas.{one_lines, one_script, script_excludes}
-use Rattle.fizz_cli.proofs.StepsLemmas.{one_plain_refusal, refuses_more}
+use Rattle.fizz_cli.proofs.StepsLemmas.{one_file_refusal, refuses_more}
 
 -- a fault that was counted later was counted from the beginning
 fault_from : (a b c : ℕ) → a ≤ b → FaultCounted b c → FaultCounted a c
@@ -63,13 +61,12 @@ module _ (laws : ProgramLaws) (at : Contents) (app script : List ℕ) where
       ap₂ (λ (program : File) (script : List Event). record { program = program; script = script })
       (one_program laws (at app) a.program b.program p.is_app q.is_app) (one_lines (at script) a.script b.script p.is_script q.is_script)
 
-  one_refusal : (a b : Refusal) → RefusesSources at app script ⊥ a → RefusesSources at app script ⊥ b → plain_refusal a ≡ plain_refusal b
+  one_refusal : (a b : Refusal) → RefusesSources at app script ⊥ a → RefusesSources at app script ⊥ b → a ≡ b
   one_refusal a b (inl p) (inl q) =
-      one_plain_refusal Program plain_refusal RefusesProgramBytes most_program_bytes app (at app) a b
-      (λ bytes f g x y. ap (λ (h : ProgramFault). FileRefused app (Program h)) (one_program_fault laws bytes f g x y)) p q
+      one_file_refusal Program RefusesProgramBytes most_program_bytes app (at app) a b (one_program_fault laws) p q
   one_refusal a b (inl p) (inr (program, x, q)) = absurd (program_excludes laws app (at app) program a x p)
   one_refusal a b (inr (program, x, p)) (inl q) = absurd (program_excludes laws app (at app) program b x q)
-  one_refusal a b (inr (f, x, p)) (inr (g, y, q)) = ap plain_refusal (one_script script (at script) a b p q)
+  one_refusal a b (inr (f, x, p)) (inr (g, y, q)) = one_script script (at script) a b p q
 
   -- and then what is made of the two
   pub next_excludes : (next : Sources → Refusal → Type 0) (sources : Sources) (refusal : Refusal) → AcceptsSources at app script sources →
@@ -80,9 +77,9 @@ module _ (laws : ProgramLaws) (at : Contents) (app script : List ℕ) where
 
   pub one_next : (next : Sources → Refusal → Type 0) (a b : Refusal) → ((sources : Sources) → next sources a → next sources b → a ≡ b) →
       FirstOrNext (RefusesSources at app script ⊥) (AcceptsSources at app script) next a →
-      FirstOrNext (RefusesSources at app script ⊥) (AcceptsSources at app script) next b → plain_refusal a ≡ plain_refusal b
+      FirstOrNext (RefusesSources at app script ⊥) (AcceptsSources at app script) next b → a ≡ b
   one_next next a b one (inl p) (inl q) = one_refusal a b p q
   one_next next a b one (inl p) (inr (s, x, q)) = absurd (sources_exclude s a x p)
   one_next next a b one (inr (s, x, p)) (inl q) = absurd (sources_exclude s b x q)
   one_next next a b one (inr (s, x, p)) (inr (t, y, q)) =
-      ap plain_refusal (one s p (subst (λ (u : Sources). next u b) (one_sources t s y x) q))
+      one s p (subst (λ (u : Sources). next u b) (one_sources t s y x) q)

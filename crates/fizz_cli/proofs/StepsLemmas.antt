@@ -123,19 +123,6 @@ one_file_refusal {F} fault_of refuses most name file a b one (inr p) (inr q) =
     let there : refuses p.bytes q.fault = subst (λ (bs : List ℕ). refuses bs q.fault) same q.refused in
     p.says ∙ ap (λ (f : F). File name (fault_of f)) (one p.bytes p.fault q.fault p.refused there) ∙ sym q.says
 
--- The same of what refusals say in part: `part` of a refusal says as much as it says of the reader's fault.
-pub one_plain_refusal : {F : Type 0} (fault_of : F → FileFault) (part : Refusal → Refusal) (refuses : List ℕ → F → Type 0) (most : ℕ) (name : List ℕ)
-    (file : Option (List ℕ)) (a b : Refusal) →
-    ((bytes : List ℕ) (f g : F) → refuses bytes f → refuses bytes g → part (File name (fault_of f)) ≡ part (File name (fault_of g))) →
-    RefusesFile fault_of refuses ⊥ most name file a → RefusesFile fault_of refuses ⊥ most name file b → part a ≡ part b
-one_plain_refusal fault_of part refuses most name file a b one (inl p) (inl q) = ap part (one_unread most name file a b p q)
-one_plain_refusal fault_of part refuses most name file a b one (inl p) (inr q) = absurd (is_read most name file q.bytes a q.is_file p)
-one_plain_refusal fault_of part refuses most name file a b one (inr p) (inl q) = absurd (is_read most name file p.bytes b p.is_file q)
-one_plain_refusal {F} fault_of part refuses most name file a b one (inr p) (inr q) =
-    let same : q.bytes ≡ p.bytes = same_bytes file q.bytes p.bytes q.is_file.found p.is_file.found in
-    let there : refuses p.bytes q.fault = subst (λ (bs : List ℕ). refuses bs q.fault) same q.refused in
-    ap part p.says ∙ (one p.bytes p.fault q.fault p.refused there ∙ sym (ap part q.says))
-
 -- what a reader refuses the bytes of a file for
 pub refused_for : {A F : Type 0} (accepts : List ℕ → A → Type 0) (refuses : List ℕ → F → Type 0) (given bytes : List ℕ) (e : OrMemory F) (fault : F) →
     given ≡ bytes → e ≡ Fault fault → AcceptsOrRefuses (accepts given) (refuses given) (Err e) → refuses bytes fault

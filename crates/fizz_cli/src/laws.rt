@@ -9,7 +9,6 @@ ghost use Rattle.page_laws.specs.PrintedDocuments.{IsDocument};
 ghost use Rattle.settle_script.specs.declared.event.Event.{Event};
 ghost use Rattle.fizz_cli.specs.PageFiles.{RefusesPage, ShowsFile};
 ghost use Rattle.fizz_cli.specs.ProgramFiles.{AcceptsProgram, RefusesProgram};
-ghost use Rattle.fizz_cli.specs.Refusals.{plain_refusal};
 ghost use Rattle.fizz_cli.specs.Rendering.{RefusesRender, RendersFiles};
 ghost use Rattle.fizz_cli.specs.ScriptFiles.{AcceptsScript, RefusesScript};
 ghost use Rattle.fizz_cli.specs.Trees.{RefusesTree, ShowsTree};
@@ -20,7 +19,7 @@ use crate::command::Command;
 use document_machine::laws_of_documents;
 use jsx_check::one_check_fault;
 use jsx_lex::{one_fault, one_token_list, tokens_or_fault};
-use jsx_syntax::one_file;
+use jsx_syntax::{one_file, one_syntax_fault};
 
 /// A law of documents: bytes are one document at most.
 pub fn one_document()
@@ -43,16 +42,17 @@ pub fn laws_of_steps()
     one_fault();
     tokens_or_fault();
     one_file();
+    one_syntax_fault();
     one_check_fault();
     laws_of_documents();
 }
 
 /// Laws of commands, by what files hold: an accepted command is not refused, and a command is refused for one thing at
-/// most, so there is one note for it, but for what is wanted in the place of a token of a component file.
+/// most, so there is one note for it.
 pub fn laws_of_refusals(command: &Command)
     ensures accepted { (at : Contents) (cause : Cause) → Accepts at command.now → Refuses at command.now ⊥ cause → ⊥ }
     ensures one { (at : Contents) (a b : Cause) →
-        Refuses at command.now ⊥ a → Refuses at command.now ⊥ b → plain_refusal a ≡ plain_refusal b }
+        Refuses at command.now ⊥ a → Refuses at command.now ⊥ b → a ≡ b }
 {
     match command {
         Command::Render { .. } => laws_of_programs(),
@@ -66,18 +66,17 @@ fn laws_of_programs()
     ensures shown { (at : Contents) (app script prefix out : List ℕ) (cause : Cause) →
         ShowsTree at app script prefix out → RefusesTree at app script prefix ⊥ cause → ⊥ }
     ensures one_tree { (at : Contents) (app script prefix : List ℕ) (a b : Cause) →
-        RefusesTree at app script prefix ⊥ a → RefusesTree at app script prefix ⊥ b →
-        plain_refusal a ≡ plain_refusal b }
+        RefusesTree at app script prefix ⊥ a → RefusesTree at app script prefix ⊥ b → a ≡ b }
     ensures rendered { (at : Contents) (app script prefix out : List ℕ) (cause : Cause) →
         RendersFiles at app script prefix out → RefusesRender at app script prefix ⊥ cause → ⊥ }
     ensures one_render { (at : Contents) (app script prefix : List ℕ) (a b : Cause) →
-        RefusesRender at app script prefix ⊥ a → RefusesRender at app script prefix ⊥ b →
-        plain_refusal a ≡ plain_refusal b }
+        RefusesRender at app script prefix ⊥ a → RefusesRender at app script prefix ⊥ b → a ≡ b }
 {
     one_token_list();
     one_fault();
     tokens_or_fault();
     one_file();
+    one_syntax_fault();
     one_check_fault();
 }
 

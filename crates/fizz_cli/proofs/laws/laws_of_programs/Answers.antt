@@ -15,6 +15,7 @@ returns c =
       one_lex = c.one_fault.ensures;
       not_both = c.tokens_or_fault.ensures.not_both;
       one_file = c.one_file.ensures;
+      one_syntax = c.one_syntax_fault.ensures;
       one_check = c.one_check_fault.ensures.one;
       no_check = c.one_check_fault.ensures.none;
     } in

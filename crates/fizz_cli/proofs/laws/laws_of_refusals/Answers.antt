@@ -1,6 +1,5 @@
-use Rattle.std.proofs.Common.{ℕ, List, ap, sym, subst}
+use Rattle.std.proofs.Common.{ℕ, List, sym, subst}
 use Rattle.fizz_cli.specs.PageFiles.{RefusesPage, ShowsFile}
-use Rattle.fizz_cli.specs.Refusals.{plain_refusal}
 use Rattle.fizz_cli.proofs.laws.laws_of_refusals.Goals as goal
 
 pub returns-in-Render-clause-accepted : goal.returns-in-Render-clause-accepted
@@ -19,9 +18,9 @@ returns-in-Show-clause-accepted c = rw c.in-Show.is (λ at refusal a r.
 
 pub returns-in-Show-clause-one : goal.returns-in-Show-clause-one
 returns-in-Show-clause-one c = rw c.in-Show.is (λ at a b p q.
-    ap plain_refusal (c.laws_of_pages.ensures.one c.in-Show.file (at c.in-Show.file) a b
+    c.laws_of_pages.ensures.one c.in-Show.file (at c.in-Show.file) a b
     (subst (λ (x : List ℕ). RefusesPage x ⊥ c.in-Show.file (at c.in-Show.file) a) (sym c.as_str.ensures.value) p)
-    (subst (λ (x : List ℕ). RefusesPage x ⊥ c.in-Show.file (at c.in-Show.file) b) (sym c.as_str.ensures.value) q)))
+    (subst (λ (x : List ℕ). RefusesPage x ⊥ c.in-Show.file (at c.in-Show.file) b) (sym c.as_str.ensures.value) q))
 
 pub returns-in-Tree-clause-accepted : goal.returns-in-Tree-clause-accepted
 returns-in-Tree-clause-accepted c = rw c.in-Tree.is (λ at refusal a r.
