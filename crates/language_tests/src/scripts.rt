@@ -1,6 +1,6 @@
 //! Refused scripts with two faults.
 
-use settle_script::read_script;
+use settle_script::{Outcomes, read_script};
 use std::alloc::{AllocError, Global};
 use std::test::Fail;
 
@@ -174,6 +174,25 @@ fn unlike_many(alloc: Global, rows: &[(&str, &str, &str)]) -> Result<String, All
         push_unlike(alloc, &mut report, text.as_str(), fault)?;
     }
     Ok(report)
+}
+
+#[test]
+fn settlements_are_told_by_their_place(rt: HostRuntime) -> Result<(), Fail> {
+    let script =
+        b"[{\"resolve\":\"a\",\"value\":1},{\"work\":0},{\"reject\":\"b\",\"digest\":\"\"}]";
+    let script = read_script(rt.alloc(), script.as_slice())?;
+    let outcomes = script.outcomes();
+    assert_eq!(rt; resource(outcomes, 0), "a");
+    assert_eq!(rt; resource(outcomes, 1), "b");
+    assert_eq!(rt; resource(outcomes, 2), "none");
+    Ok(())
+}
+
+fn resource(outcomes: &Outcomes, place: u32) -> &str {
+    match outcomes.name_at(place) {
+        Some(name) => name.as_str(),
+        None => "none",
+    }
 }
 
 /// A line for a script that is answered otherwise.
