@@ -48,10 +48,11 @@ changed_at change id bounds = changed (bound_at bounds id)
 abbrev pub with_state : (State → State) → ℕ → Bounds → Bounds
 with_state change id all = record all { bounds = changed_at change id all.bounds }
 
-abbrev pub one_more : State → State
-one_more (Pending tasks bytes) = Pending (tasks + 1) bytes
-one_more (Complete bytes) = Complete bytes
-one_more (Failed digest) = Failed digest
+-- so many tasks more
+abbrev pub more : ℕ → State → State
+more count (Pending tasks bytes) = Pending (tasks + count) bytes
+more count (Complete bytes) = Complete bytes
+more count (Failed digest) = Failed digest
 
 -- both numbers together, or the greatest one
 abbrev pub bytes_with : ℕ → ℕ → ℕ

@@ -33,7 +33,7 @@ impl Model for Boundaries {
 
 impl Boundaries {
     ghost use Rattle.fizz_boundary.specs.Bounds.{AreBounds, bound_at, mark_at, tasks_left};
-    ghost use Rattle.fizz_boundary.specs.Calls.{IsMade, IsParent, IsPending, added, failed_with, no_boundaries, one_done, one_more, reserved, with_drawn, with_revealed, with_state};
+    ghost use Rattle.fizz_boundary.specs.Calls.{IsMade, IsParent, IsPending, added, failed_with, more, no_boundaries, one_done, reserved, with_drawn, with_revealed, with_state};
     ghost use Rattle.fizz_boundary.specs.Views.{IsLook, OfBound, Shows};
 
     /// No boundary.
@@ -188,10 +188,21 @@ impl Boundaries {
     pub fn part_added(&mut self, id: u32)
         requires pending { IsPending self.old id }
         requires few { IfSome (tasks_left (bound_at self.old.bounds id)) (λ tasks. tasks + 1 < 2 ^ 32) }
-        ensures { self.new ≡ with_state one_more id self.old }
+        ensures { self.new ≡ with_state (more 1) id self.old }
     {
         if let State::Pending { tasks, bytes: _ } = &mut self.bounds[id as usize].state {
             *tasks += 1;
+        }
+    }
+
+    /// The boundary gets so many tasks more.
+    pub fn parts_added(&mut self, id: u32, count: u32)
+        requires pending { IsPending self.old id }
+        requires few { IfSome (tasks_left (bound_at self.old.bounds id)) (λ tasks. tasks + count < 2 ^ 32) }
+        ensures { self.new ≡ with_state (more count) id self.old }
+    {
+        if let State::Pending { tasks, bytes: _ } = &mut self.bounds[id as usize].state {
+            *tasks += count;
         }
     }
 

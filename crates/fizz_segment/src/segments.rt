@@ -42,7 +42,7 @@ impl Model for Segments {
 }
 
 impl Segments {
-    ghost use Rattle.fizz_segment.specs.Tree.{IsTree};
+    ghost use Rattle.fizz_segment.specs.Tree.{IsTree, mark_at};
     ghost use Rattle.fizz_segment.specs.Calls.{IsLive, added, child_of, completed, forgotten, is_complete, no_segments, reserved, root_of, site_of, with_drawn, with_printed};
     ghost use Rattle.fizz_segment.specs.Tree.{no_flags};
     ghost use Rattle.fizz_segment.specs.Views.{IsViewOf};
@@ -81,6 +81,14 @@ impl Segments {
         ensures tree { IsTree self.now }
     {
         self.spare
+    }
+
+    /// The number that the next segment gets.
+    pub fn next(&self) -> u32
+        ensures next { result ≡ length self.now.parts }
+        ensures tree { IsTree self.now }
+    {
+        self.parts.len() as u32
     }
 
     fn add(&mut self, part: Part, flags: Flags) -> SegId
@@ -194,6 +202,23 @@ impl Segments {
         match self.parts.get(id.0 as usize) {
             Some(part) => part.is_some(),
             None => false,
+        }
+    }
+
+    /// How a segment is printed; one that was never made isn't.
+    pub fn mark(&self, id: SegId) -> Mark
+        ensures { result ≡ mark_at self.now.marks id }
+    {
+        match self.marks.get(id.0 as usize) {
+            Some(mark) => *mark,
+            None => Mark {
+                flags: Flags {
+                    lead: false,
+                    embedded: false,
+                },
+                drawn: None,
+                printed: false,
+            },
         }
     }
 

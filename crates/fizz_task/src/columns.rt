@@ -7,7 +7,8 @@ ghost use Rattle.fizz_task.specs.Indexed.{name_place, owner_place};
 ghost use Rattle.fizz_task.specs.Answers.{Shows};
 ghost use Rattle.fizz_task.specs.Stored.{IsFirst, IsQueue, runnable_in};
 
-use crate::places::{name_list, owner_list};
+use crate::name::Name;
+use crate::places::{owner_list, waited_list};
 use crate::state::{Claimed, StaleTask, State, TaskState};
 use fizz_text::{OutOfMemory, Text};
 use std::alloc::Global;
@@ -111,7 +112,7 @@ impl<W: Drop> Columns<W> {
     }
 
     /// Makes a task that waits for a resource, or one that is runnable. Its number is answered.
-    pub(crate) fn spawn(&mut self, owner: Option<u32>, payload: W, waits: Option<Text>) -> u32
+    pub(crate) fn spawn(&mut self, owner: Option<u32>, payload: W, waits: Option<Name>) -> u32
         requires { 0 < self.old.spare }
         ensures number { result ≡ length self.old.states }
         ensures spawned { self.new ≡ spawned owner payload waits self.old }
@@ -184,7 +185,7 @@ impl<W: Drop> Columns<W> {
         task: u32,
         claim: u64,
         payload: W,
-        resource: Text,
+        resource: Name,
     ) -> Result<(), StaleTask<W>>
         ensures exactly { IsOk result ↔ (claim_of (state_at self.old.states task) ≡ Some claim) }
         ensures ok { OnOk result (self.new ≡ put_off task payload resource self.old) }
@@ -268,7 +269,7 @@ impl<W: Drop> Columns<W> {
         ensures { result ≡ name_place count (state_at self.now.states task) }
     {
         match self.states.get(task as usize) {
-            Some(State::Waiting(name, _)) => Some(name_list(name, count)),
+            Some(State::Waiting(name, _)) => Some(waited_list(name, count)),
             _ => None,
         }
     }
@@ -288,6 +289,13 @@ impl<W: Drop> Columns<W> {
             None => TaskState::Gone,
             Some(state) => shown(state),
         }
+    }
+
+    /// The number under which a task is claimed.
+    pub(crate) fn claim_number(&self, task: u32) -> Option<u64>
+        ensures { result ≡ claim_of (state_at self.now.states task) }
+    {
+        claim_at(&self.states, task)
     }
 
     /// The owner of a task that isn't gone.

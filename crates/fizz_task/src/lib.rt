@@ -3,10 +3,12 @@
 
 mod columns;
 mod indexing;
+mod name;
 mod places;
 mod state;
 mod tasks;
 
+pub use name::Name;
 pub use state::{Claimed, StaleTask, TaskState};
 pub use tasks::Tasks;
 

@@ -4,6 +4,7 @@ ghost use Rattle.std.specs.Prelude.{◌≡◌, ◌<◌, ◌≤◌, length};
 ghost use Rattle.id_lists.specs.Lists.{AreLists};
 ghost use Rattle.fizz_task.specs.Indexed.{HasList, hash_from, moved, name_list, owner_list};
 
+use crate::name::Name;
 use fizz_text::Text;
 use id_lists::IdLists;
 
@@ -31,6 +32,14 @@ fn hash_of(bytes: &[u8]) -> u64
 
 /// Among so many lists, the one of a name.
 pub(crate) fn name_list(name: &Text, count: u32) -> u32
+    requires { 1 < count }
+    ensures { result ≡ name_list count name.now }
+{
+    (hash_of(name.as_bytes()) % count as u64) as u32
+}
+
+/// The same of the name for which a task waits.
+pub(crate) fn waited_list(name: &Name, count: u32) -> u32
     requires { 1 < count }
     ensures { result ≡ name_list count name.now }
 {

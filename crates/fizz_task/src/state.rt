@@ -1,4 +1,4 @@
-use fizz_text::Text;
+use crate::name::Name;
 
 /// The state of a task with its payload, which a claim takes along.
 #[derive(Drop)]
@@ -6,7 +6,7 @@ pub enum State<W> {
     Gone,
     Runnable(W),
     Claimed(u64),
-    Waiting(Text, W),
+    Waiting(Name, W),
 }
 
 /// How a task stands. A task that was never made is gone.
@@ -14,7 +14,7 @@ pub enum TaskState<'a> {
     Gone,
     Runnable,
     Claimed { claim: u64 },
-    Waiting { resource: &'a Text },
+    Waiting { resource: &'a Name },
 }
 
 /// A task that was claimed, with the number of the claim.

@@ -5,6 +5,7 @@ ghost use Rattle.fizz_task.specs.Answers.{Claims, IsRefused, Shows};
 
 use crate::columns::Columns;
 use crate::indexing;
+use crate::name::Name;
 use crate::places::owner_list;
 use crate::state::{Claimed, StaleTask, TaskState};
 use fizz_text::{OutOfMemory, Text};
@@ -99,7 +100,7 @@ impl<W: Drop> Tasks<W> {
     }
 
     /// Makes a task that waits for a resource, or one that is runnable. Its number is answered.
-    pub fn spawn(&mut self, owner: Option<u32>, payload: W, waits: Option<Text>) -> u32
+    pub fn spawn(&mut self, owner: Option<u32>, payload: W, waits: Option<Name>) -> u32
         requires { 0 < self.old.spare }
         ensures number { result ≡ length self.old.states }
         ensures spawned { self.new ≡ spawned owner payload waits self.old }
@@ -141,7 +142,7 @@ impl<W: Drop> Tasks<W> {
         task: u32,
         claim: u64,
         payload: W,
-        resource: Text,
+        resource: Name,
     ) -> Result<(), StaleTask<W>>
         ensures exactly { IsOk result ↔ (claim_of (state_at self.old.states task) ≡ Some claim) }
         ensures ok { OnOk result (self.new ≡ put_off task payload resource self.old) }
@@ -213,6 +214,13 @@ impl<W: Drop> Tasks<W> {
         ensures { Shows result (state_at self.now.states task) }
     {
         self.columns.state(task)
+    }
+
+    /// The number under which a task is claimed. `None` exactly where it isn't claimed.
+    pub fn claim_number(&self, task: u32) -> Option<u64>
+        ensures { result ≡ claim_of (state_at self.now.states task) }
+    {
+        self.columns.claim_number(task)
     }
 
     /// The owner of a task that isn't gone.

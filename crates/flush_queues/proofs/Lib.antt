@@ -1,5 +1,5 @@
 mod OutputLemmas
 mod KidsLemmas
-mod QueuesLemmas
+pub mod QueuesLemmas
 mod PrintingLemmas
 mod UnitLemmas

@@ -1,6 +1,8 @@
 -- Lists without an id that stands in none of them.
-use Rattle.std.proofs.Common.{◌≡◌, ◌<◌, ◌≤◌, ◌+◌, ◌==◌, ℕ, zero, suc, Bool, true, false, List, [], ◌∷◌, ◌++◌, length, sym, ap, refl, arith}
-use Rattle.id_lists.specs.Lists.{AreLists, Lists, list_at, one, times, times_in_all}
+use Rattle.std.proofs.Common.{subst, ◌≡◌, ◌<◌, ◌≤◌, ◌+◌, ◌==◌, ℕ, zero, suc, Bool, true, false, List, [], ◌∷◌, ◌++◌, length, slice_set, Option, Some, None, inl, inr, sym, ap, refl, arith}
+use Rattle.id_lists.specs.Lists.{AreLists, Lists, first_of, list_at, one, times, times_in_all}
+use Rattle.id_lists.proofs.Counts.{drops_same, keeps_other, list_map, list_past, one_other, one_same, times_at}
+use Rattle.std.proofs.lemmas.Bool.{cases_eq}
 use Rattle.std.proofs.lemmas.List.{length-map}
 use Rattle.id_lists.specs.Calls.{CanPush, list_without, without}
 
@@ -59,3 +61,74 @@ list_at-more [] zero = refl
 list_at-more [] (suc n) = refl
 list_at-more (list ∷ lists) zero = refl
 list_at-more (list ∷ lists) (suc n) = list_at-more lists n
+
+times-none_left : (b n : ℕ) → 1 ≤ b → b + n ≤ 1 → n ≡ 0
+times-none_left b n some most = omega (arith, some, most)
+
+-- Where an id stands in one list alone, taking it out changes nothing beside that list.
+pub slice_set-without : (id k : ℕ) (lists : List (List ℕ)) → times_in_all id lists ≤ 1 → 1 ≤ times id (list_at lists k)
+    → slice_set (without id lists) k [] ≡ slice_set lists k []
+slice_set-without id k [] once stands = refl
+slice_set-without id zero (list ∷ lists) once stands =
+    ap (λ ls. [] ∷ ls) (without-none id lists (omega (arith, stands, once)))
+slice_set-without id (suc k) (list ∷ lists) once stands =
+    let there : 1 ≤ times_in_all id lists = omega (arith, stands, times_at id lists k) in
+    let here : list_without id list ≡ list = list_without-none id list (omega (arith, there, once)) in
+    let later : slice_set (without id lists) k [] ≡ slice_set lists k [] =
+    slice_set-without id k lists (omega (arith, once)) stands in
+    rw here (ap (λ ls. list ∷ ls) later)
+
+-- an empty list is set to the empty list
+pub slice_set-empty : (k : ℕ) (lists : List (List ℕ)) → list_at lists k ≡ [] → slice_set lists k [] ≡ lists
+slice_set-empty k [] empty = refl
+slice_set-empty zero (list ∷ lists) empty = ap (λ l. l ∷ lists) (sym empty)
+slice_set-empty (suc k) (list ∷ lists) empty = ap (λ ls. list ∷ ls) (slice_set-empty k lists empty)
+
+no_some : (n : ℕ) → None ≡ Some n → ⊥
+no_some n is = cc
+
+same_some : (m n : ℕ) → Some m ≡ Some n → n ≡ m
+same_some m n is = cc
+
+some_none : (n : ℕ) → Some n ≡ None → ⊥
+some_none n is = cc
+
+pub first-stands : (id : ℕ) (ns : List ℕ) → first_of ns ≡ Some id → 1 ≤ times id ns
+first-stands id [] is = absurd (no_some id is)
+first-stands id (n ∷ ns) is = omega (arith, one_same id n (same_some n id is))
+
+pub no_first : (ns : List ℕ) → first_of ns ≡ None → ns ≡ []
+no_first [] none = refl
+no_first (n ∷ ns) none = absurd (some_none n none)
+
+length-list_without : (id : ℕ) (ns : List ℕ) → length ns ≡ length (list_without id ns) + times id ns
+length-list_without id [] = omega arith
+length-list_without id (n ∷ ns) = elim (cases_eq id n) [
+  | inl same ↦ omega (arith, length-list_without id ns, ap length (drops_same id n ns same), one_same id n same)
+  | inr other ↦ omega (arith, length-list_without id ns, ap length (keeps_other id n ns other), one_other id n other)
+]
+
+pub shorter-without : (id k : ℕ) (lists : List (List ℕ)) → first_of (list_at lists k) ≡ Some id
+    → length (list_at (without id lists) k) < length (list_at lists k)
+shorter-without id k lists first =
+    let here : list_at (without id lists) k ≡ list_without id (list_at lists k) = list_map id lists k in
+    let stands : 1 ≤ times id (list_at lists k) = first-stands id (list_at lists k) first in
+    rw here (omega (arith, stands, length-list_without id (list_at lists k)))
+
+-- the first of a list is taken out, and what is left is emptied as before
+pub emptied-without : (all new : Lists) (id k : ℕ) → AreLists all → first_of (list_at all.lists k) ≡ Some id
+    → new ≡ record all { lists = without id all.lists }
+    → record new { lists = slice_set new.lists k [] } ≡ record all { lists = slice_set all.lists k [] }
+emptied-without all new id k are first is =
+    subst (λ (n : Lists). record n { lists = slice_set n.lists k [] } ≡ record all { lists = slice_set all.lists k [] }) (sym is)
+    (ap (λ ls. record all { lists = ls })
+    (slice_set-without id k all.lists (are.once id) (first-stands id (list_at all.lists k) first)))
+
+pub emptied-empty : (all : Lists) (k : ℕ) → first_of (list_at all.lists k) ≡ None
+    → all ≡ record all { lists = slice_set all.lists k [] }
+emptied-empty all k none =
+    ap (λ ls. record all { lists = ls }) (sym (slice_set-empty k all.lists (no_first (list_at all.lists k) none)))
+
+pub emptied-past : (all : Lists) (k : ℕ) → length all.lists ≤ k → all ≡ record all { lists = slice_set all.lists k [] }
+emptied-past all k past =
+    ap (λ ls. record all { lists = ls }) (sym (slice_set-empty k all.lists (list_past all.lists k past)))

@@ -1,8 +1,8 @@
 -- What is still to be sent of a page: which segments are ready, and which boundaries wait for what.
-use Rattle.std.specs.Prelude.{◌≡◌, ◌≤◌, ◌+◌, ℕ, List, [], length, Option}
+use Rattle.std.specs.Prelude.{◌≡◌, ◌≤◌, ◌+◌, ℕ, List, [], ◌∷◌, Option}
 use Rattle.fizz_instructions.specs.Sending.{no_function_sent}
-use Rattle.id_lists.specs.Lists.{list_at}
-use Rattle.id_lists.specs.Calls.{no_lists, with_pushed, without}
+use Rattle.id_lists.specs.Lists.{Lists, list_at}
+use Rattle.id_lists.specs.Calls.{no_lists, with_id, with_list, with_pushed, without}
 use Rattle.flush_queues.specs.declared.queues.Queue.{Queue}
 use Rattle.flush_queues.specs.declared.queues.Queue.TheVariants.{ClientRendered, Completed, Partial}
 use Rattle.flush_queues.specs.declared.queues.Queues.{Queues}
@@ -53,9 +53,34 @@ with_entered queue boundary queues = record queues {
 abbrev pub with_next_drawn : Queues → Queues
 with_next_drawn queues = record queues { next = queues.next + 1 }
 
--- there is a place for so many segments and boundaries
+-- lists but for the room that is kept for more
+abbrev pub bare : Lists → Lists
+bare all = record all { spare_lists = 0; spare_ids = 0 }
+
+-- queues but for the room that is kept for more
+abbrev pub without_room : Queues → Queues
+without_room queues = record queues { ready = bare queues.ready; boundaries = bare queues.boundaries }
+
+abbrev pub queues_made : List (List ℕ) → List (List ℕ)
+queues_made [] = [] ∷ [] ∷ [] ∷ []
+queues_made (list ∷ lists) = list ∷ lists
+
+-- the three queues are there
+abbrev pub with_queues : Queues → Queues
+with_queues queues = record queues {
+  boundaries = record queues.boundaries { lists = queues_made queues.boundaries.lists };
+}
+
+-- a segment more
+abbrev pub with_segment : Queues → Queues
+with_segment queues = record queues { ready = with_id queues.ready }
+
+-- a boundary more
+abbrev pub with_boundary : Queues → Queues
+with_boundary queues = record queues { ready = with_list queues.ready; boundaries = with_id queues.boundaries }
+
+-- there is room for so many segments and boundaries more
 pub record HasRoom (segments boundaries : ℕ) (queues : Queues) : Type 0 where
-  pub queues_made : 3 ≤ length queues.boundaries.lists
-  pub for_segments : segments ≤ queues.ready.ids
-  pub for_lists : boundaries ≤ length queues.ready.lists
-  pub for_boundaries : boundaries ≤ queues.boundaries.ids
+  pub for_segments : segments ≤ queues.ready.spare_ids
+  pub for_lists : boundaries ≤ queues.ready.spare_lists
+  pub for_boundaries : boundaries ≤ queues.boundaries.spare_ids

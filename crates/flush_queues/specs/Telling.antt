@@ -1,5 +1,5 @@
 -- What the queues are told: how many segments and boundaries there are, and which segment became complete.
-use Rattle.std.specs.Prelude.{◌≡◌, ◌<◌, ◌≤◌, ◌==◌, ℕ, Bool, true, false, if◌then◌else◌, length, Option, Some, None}
+use Rattle.std.specs.Prelude.{◌≡◌, ◌<◌, ◌≤◌, ◌==◌, ℕ, Bool, true, false, nat_lt, if◌then◌else◌, [], length, slice_set, Option, Some, None}
 use Rattle.fizz_segment.specs.Tree.{Tree, mark_at, part_at}
 use Rattle.fizz_segment.specs.declared.segment.Mark.{Mark}
 use Rattle.fizz_segment.specs.declared.segment.Part.{Part}
@@ -12,9 +12,9 @@ use Rattle.fizz_boundary.specs.declared.boundary.State.{State}
 use Rattle.fizz_boundary.specs.declared.boundary.State.TheVariants.{Pending, Complete, Failed}
 use Rattle.id_lists.specs.Lists.{home_of}
 use Rattle.id_lists.specs.Calls.{with_pushed, without}
-use Rattle.flush_queues.specs.Queues.{number_of, queue_of, ready_of, with_entered}
+use Rattle.flush_queues.specs.Queues.{number_of, with_entered, without_boundary}
 use Rattle.flush_queues.specs.declared.queues.Queue.{Queue}
-use Rattle.flush_queues.specs.declared.queues.Queue.TheVariants.{Completed, Partial}
+use Rattle.flush_queues.specs.declared.queues.Queue.TheVariants.{ClientRendered, Completed, Partial}
 use Rattle.flush_queues.specs.declared.queues.Queues.{Queues}
 
 -- Whether a segment's parent is printed: a forgotten one was.
@@ -96,10 +96,22 @@ abbrev pub HasPlacesIf : ℕ → Option ℕ → Queues → Type 0
 HasPlacesIf s None queues = Unit {0}
 HasPlacesIf s (Some boundary) queues = HasPlaces s boundary queues
 
--- All stands as before, in more places.
-pub record IsGrown (old new : Queues) : Type 0 where
-  pub ready : (boundary : ℕ) → ready_of new boundary ≡ ready_of old boundary
-  pub queued : (queue : Queue) → queue_of new queue ≡ queue_of old queue
-  pub next : new.next ≡ old.next
-  pub sent : new.sent ≡ old.sent
-  pub shell : new.shell ≡ old.shell
+-- Nothing of a boundary is sent any more: no segment of it is ready, and it stands in no queue.
+abbrev pub with_dropped : ℕ → Queues → Queues
+with_dropped boundary queues = without_boundary boundary
+    (record queues { ready = record queues.ready { lists = slice_set queues.ready.lists boundary [] } })
+
+-- a boundary leaves its queue, and becomes the last of this one if it was made
+abbrev pub with_entered_if_made : Queue → ℕ → Queues → Queues
+with_entered_if_made queue boundary queues =
+    if nat_lt boundary queues.boundaries.ids then with_entered queue boundary queues
+    else without_boundary boundary queues
+
+-- A boundary that has failed since it was printed with its fallback waits for its instruction.
+abbrev pub with_failed : BoundaryMark → ℕ → Queues → Queues
+with_failed mark boundary queues = pending_failed mark.drawn mark.revealed
+  where
+    pending_failed : Option ℕ → Bool → Queues
+    pending_failed None revealed = queues
+    pending_failed (Some id) true = queues
+    pending_failed (Some id) false = with_entered_if_made ClientRendered boundary queues

@@ -4,7 +4,6 @@
 mod flow;
 mod flushing;
 mod frame;
-mod growing;
 mod output;
 mod page;
 mod printing;

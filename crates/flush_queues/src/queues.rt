@@ -1,13 +1,14 @@
 //! The queues of a page.
 
-ghost use Rattle.std.specs.Prelude.{◌≡◌, ◌<◌, ◌≤◌, ◌+◌, ◌^◌, ◌↔◌, [], length, IsTrue, IsFalse, IfOk, OnOk, OnErr};
+ghost use Rattle.std.specs.Prelude.{◌≡◌, ◌<◌, ◌≤◌, ◌+◌, ◌^◌, ◌↔◌, [], length, slice_set, IsTrue, IsFalse, IfOk, OnOk, OnErr, None};
 ghost use Rattle.flush_queues.specs.Flushed.{AreAsMany, IsFlushed, tables_with};
 ghost use Rattle.flush_queues.specs.Flushing.{Flushes};
-ghost use Rattle.id_lists.specs.Calls.{without};
+ghost use Rattle.fizz_boundary.specs.Bounds.{mark_at as boundary_mark_at};
+ghost use Rattle.id_lists.specs.Lists.{times_in_all};
+ghost use Rattle.id_lists.specs.Calls.{with_pushed, without};
 
 use crate::flow::Flow;
 use crate::flushing::flush_flow;
-use crate::growing::{grow_ids, grow_lists};
 use crate::output::Output;
 use crate::page::Page;
 use crate::telling::{is_ready, serve_if_pending};
@@ -57,8 +58,8 @@ pub struct Queues {
 
 impl Queues {
     ghost use Rattle.id_lists.specs.Lists.{first_of};
-    ghost use Rattle.flush_queues.specs.Queues.{HasNothingQueued, HasRoom, new_queues, queue_of, ready_of, with_entered, without_boundary, without_ready};
-    ghost use Rattle.flush_queues.specs.Telling.{HasPlaces, HasPlacesIf, IsGrown, with_done, with_ready};
+    ghost use Rattle.flush_queues.specs.Queues.{HasNothingQueued, HasRoom, new_queues, queue_of, with_boundary, with_entered, with_queues, with_segment, without_boundary, without_ready, without_room};
+    ghost use Rattle.flush_queues.specs.Telling.{HasPlaces, HasPlacesIf, with_done, with_dropped, with_entered_if_made, with_failed, with_ready};
 
     /// Queues of a page of which nothing is printed. For `None` its shell counts as printed.
     pub fn new(alloc: Global, next: u32, shell: Option<SegId>) -> Queues
@@ -80,22 +81,55 @@ impl Queues {
         self.next
     }
 
-    /// Makes places for so many segments and boundaries in all. A refusal changes nothing but what room there is.
+    /// Makes the three queues, where they aren't there. A refusal changes nothing but what room there is.
+    pub fn make_queues(&mut self) -> Result<(), OutOfMemory>
+        ensures ok { OnOk result (without_room self.new ≡ with_queues (without_room self.old)) }
+        ensures err { OnErr result (without_room self.new ≡ without_room self.old) }
+    {
+        if self.boundaries.list_count() > 0 {
+            return Ok(());
+        }
+        self.boundaries.reserve(3, 0)?;
+        self.boundaries.add_list();
+        self.boundaries.add_list();
+        self.boundaries.add_list();
+        Ok(())
+    }
+
+    /// Makes room for so many segments and boundaries more. Nothing else changes, also after a refusal.
     pub fn reserve(&mut self, segments: u32, boundaries: u32) -> Result<(), OutOfMemory>
         ensures room { OnOk result (HasRoom segments boundaries self.new) }
-        ensures grown { IsGrown self.old self.new }
+        ensures same { without_room self.new ≡ without_room self.old }
     {
-        let lists = boundaries.saturating_sub(self.ready.list_count());
-        let ids = segments.saturating_sub(self.ready.id_count());
-        self.ready.reserve(lists, ids)?;
-        let lists = 3u32.saturating_sub(self.boundaries.list_count());
-        let ids = boundaries.saturating_sub(self.boundaries.id_count());
-        self.boundaries.reserve(lists, ids)?;
-        grow_lists(&mut self.ready, boundaries);
-        grow_ids(&mut self.ready, segments);
-        grow_lists(&mut self.boundaries, 3);
-        grow_ids(&mut self.boundaries, boundaries);
-        Ok(())
+        if segments > u32::MAX - self.ready.id_count() {
+            return Err(OutOfMemory);
+        }
+        if boundaries > u32::MAX - self.ready.list_count() {
+            return Err(OutOfMemory);
+        }
+        if boundaries > u32::MAX - self.boundaries.id_count() {
+            return Err(OutOfMemory);
+        }
+        self.ready.reserve(boundaries, segments)?;
+        self.boundaries.reserve(0, boundaries)
+    }
+
+    /// Is told that a segment was made.
+    pub fn add_segment(&mut self)
+        requires { 0 < self.old.ready.spare_ids }
+        ensures { self.new ≡ with_segment self.old }
+    {
+        self.ready.add_id();
+    }
+
+    /// Is told that a boundary was made.
+    pub fn add_boundary(&mut self)
+        requires list { 0 < self.old.ready.spare_lists }
+        requires boundary { 0 < self.old.boundaries.spare_ids }
+        ensures { self.new ≡ with_boundary self.old }
+    {
+        self.ready.add_list();
+        self.boundaries.add_id();
     }
 
     /// The first boundary of a queue.
@@ -156,6 +190,13 @@ impl Queues {
         ensures { IsTrue result ↔ (queue_of self.now queue ≡ []) }
     {
         self.boundaries.first(queue.number()).is_none()
+    }
+
+    /// Whether the shell is sent.
+    pub fn is_shell_sent(&self) -> bool
+        ensures { IsTrue result ↔ (self.now.shell ≡ None) }
+    {
+        self.shell.is_none()
     }
 
     /// Whether no queue holds a boundary.
@@ -226,6 +267,48 @@ impl Queues {
         serve_if_pending(self, boundaries, ready, boundary);
     }
 
+    /// Whether there is a place for a segment and its boundary.
+    pub fn has_places(&self, segment: SegId, boundary: u32) -> bool
+        ensures { IsTrue result ↔ HasPlaces segment boundary self.now }
+    {
+        self.boundaries.list_count() >= 3
+            && segment.0 < self.ready.id_count()
+            && boundary < self.ready.list_count()
+            && boundary < self.boundaries.id_count()
+    }
+
+    /// Nothing of a boundary is sent any more: its ready segments aren't, and it leaves its queue.
+    pub fn drop_boundary(&mut self, boundary: u32)
+        ensures { self.new ≡ with_dropped boundary self.old }
+    {
+        clear(&mut self.ready, boundary);
+        self.leave(boundary);
+    }
+
+    /// A boundary leaves its queue and becomes the last of this one, if it was made.
+    fn enter_if_made(&mut self, queue: Queue, boundary: u32)
+        ensures { self.new ≡ with_entered_if_made queue boundary self.old }
+    {
+        self.leave(boundary);
+        if boundary < self.boundaries.id_count() {
+            append(&mut self.boundaries, queue.number(), boundary);
+        }
+    }
+
+    /// Is told that a boundary failed. If it is printed with its fallback, it waits for its instruction.
+    pub fn boundary_failed(&mut self, boundaries: &Boundaries, boundary: u32)
+        ensures { self.new ≡ with_failed (boundary_mark_at boundaries.now.marks boundary) boundary self.old }
+    {
+        let mark = boundaries.mark(boundary);
+        if mark.drawn.is_none() {
+            return;
+        }
+        if mark.revealed {
+            return;
+        }
+        self.enter_if_made(Queue::ClientRendered, boundary);
+    }
+
     /// A boundary leaves its queue and becomes the last of this one. Where no room was made for it, there is no memory.
     pub(crate) fn enter(&mut self, queue: Queue, boundary: u32) -> Result<(), OutOfMemory>
         ensures { OnOk result (self.new ≡ with_entered queue boundary self.old) }
@@ -283,5 +366,28 @@ fn remove(lists: &mut IdLists, id: u32)
 {
     if id < lists.id_count() {
         lists.remove(id);
+    }
+}
+
+/// Takes all ids out of a list.
+fn clear(lists: &mut IdLists, list: u32)
+    ensures { lists.new ≡ record lists.old { lists = slice_set lists.old.lists list [] } }
+{
+    if list >= lists.list_count() {
+        return;
+    }
+    'left: while let Some(id) = lists.first(list) {
+        lists.remove(id);
+    }
+}
+
+/// Makes an id that stands in no list the last of one, if there is such a list.
+fn append(lists: &mut IdLists, list: u32, id: u32)
+    requires made { id < lists.old.ids }
+    requires free { times_in_all id lists.old.lists ≡ 0 }
+    ensures { lists.new ≡ record lists.old { lists = with_pushed list id lists.old.lists } }
+{
+    if list < lists.list_count() {
+        lists.push(list, id);
     }
 }

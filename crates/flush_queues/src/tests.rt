@@ -35,7 +35,13 @@ fn streamed_page(alloc: Global) -> Result<(Segments, Boundaries, Queues, SegId),
     segments.complete(shell, CLEAR, Vec::new(alloc));
     segments.complete(site, CLEAR, bytes(alloc, "<i>wait</i>")?);
     let mut queues = Queues::new(alloc, 0, Some(shell));
+    queues.make_queues()?;
     queues.reserve(4, 1)?;
+    queues.add_segment();
+    queues.add_segment();
+    queues.add_segment();
+    queues.add_segment();
+    queues.add_boundary();
     Ok((segments, boundaries, queues, content))
 }
 
@@ -71,8 +77,7 @@ fn complete(
 ) -> Result<Option<Part>, Fail> {
     let html = bytes(alloc, html)?;
     let size = html.len() as u64;
-    queues.reserve(4, 1)?;
-    if segment.0 >= 4 {
+    if !queues.has_places(segment, 0) {
         return Ok(None);
     }
     if !segments.is_live(segment) {
@@ -247,6 +252,21 @@ fn failed_content_leaves_its_fallback(rt: HostRuntime) -> Result<(), Fail> {
         out.as_slice(),
         b"<!--$!--><template data-dgst=\"e1\"></template><i>wait</i><!--/$-->".as_slice()
     );
+    Ok(())
+}
+
+#[test]
+fn content_that_fails_late_gets_its_instruction(rt: HostRuntime) -> Result<(), Fail> {
+    let alloc = rt.alloc();
+    let (mut segments, mut boundaries, mut queues, _) = streamed_page(alloc)?;
+    let out = flushed(alloc, &mut segments, &mut boundaries, &mut queues, 12_800)?;
+    assert_eq!(rt; out.as_slice(), waiting().as_bytes());
+    fail(&mut boundaries, "e2");
+    queues.drop_boundary(0);
+    queues.boundary_failed(&boundaries, 0);
+    let out = flushed(alloc, &mut segments, &mut boundaries, &mut queues, 12_800)?;
+    assert!(rt; out.as_slice().starts_with(b"<script>$RX=function(b,d){"));
+    assert!(rt; out.as_slice().ends_with(b"};$RX(\"B:0\",\"e2\")</script>"));
     Ok(())
 }
 

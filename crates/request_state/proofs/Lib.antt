@@ -1,0 +1,4 @@
+mod FailingLemmas
+mod ClosingLemmas
+mod MakingLemmas
+mod CommittingLemmas

@@ -1,0 +1,9 @@
+pub mod Core
+pub mod Settling
+pub mod Claiming
+pub mod Failing
+pub mod Making
+pub mod Committing
+pub mod Closing
+pub mod Reclaiming
+pub mod Flushing
