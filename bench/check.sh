@@ -1,8 +1,8 @@
 #!/bin/sh
 # Prints how long component files take to be lexed, and to be lexed, parsed and checked together, in microseconds, in
-# nanoseconds a byte, and in tenths of lexing alone: ordinary pages of 64, 128 and 256 KB, and 1,000 components of which
-# each names those before it, as often as 256 KB allow. It builds a throw-away program in a temporary folder, over copies
-# of the crates.
+# nanoseconds a byte, and in hundredths of lexing alone: ordinary pages of 64, 128 and 256 KB, and 1,000 components which
+# name those before them as often as 256 KB allow. It builds a throw-away program in a temporary folder, over copies of
+# the crates.
 set -eu
 . "$(dirname "$0")/frame.sh"
 time_over check_bench fizz_text html_names jsx_lex jsx_syntax jsx_check <<'RT'
@@ -62,49 +62,53 @@ fn some_named(alloc: Global, most: u32) -> Result<String, Fail> {
     Ok(text)
 }
 
-/// The least of several times, in microseconds.
-fn lexing<R: Clock>(rt: &R, alloc: Global, text: &str) -> Result<u128, Fail> {
+/// The least of several times of lexing, in nanoseconds.
+fn lexing<R: AllocGlobal + Clock>(rt: &R, text: &str) -> Result<u128, Fail> {
     let mut best: u128 = u128::MAX;
     for _ in 0..15 {
         let start = Instant::now(rt)?;
-        let tokens = lex(alloc, text.as_bytes())?;
-        best = best.min(start.elapsed(rt)?.as_micros());
+        let tokens = lex(rt.alloc(), text.as_bytes())?;
+        best = best.min(start.elapsed(rt)?.as_nanos());
         drop(tokens);
     }
     Ok(best)
 }
 
 /// The same of lexing, parsing and checking.
-fn all_steps<R: Clock>(rt: &R, alloc: Global, text: &str) -> Result<u128, Fail> {
+fn all_steps<R: AllocGlobal + Clock>(rt: &R, text: &str) -> Result<u128, Fail> {
     let mut best: u128 = u128::MAX;
     for _ in 0..15 {
         let start = Instant::now(rt)?;
-        let tokens = lex(alloc, text.as_bytes())?;
-        let file = parse(alloc, &tokens, text.as_bytes())?;
-        let app = check(alloc, file)?;
-        best = best.min(start.elapsed(rt)?.as_micros());
+        let tokens = lex(rt.alloc(), text.as_bytes())?;
+        let file = parse(rt.alloc(), &tokens, text.as_bytes())?;
+        let app = check(rt.alloc(), file)?;
+        best = best.min(start.elapsed(rt)?.as_nanos());
         drop(app);
     }
     Ok(best)
 }
 
+fn report<R: AllocGlobal + Clock + Print>(rt: &R, what: &str, text: &str) -> Result<(), Fail> {
+    let bytes = text.len();
+    let alone = lexing(rt, text)?;
+    let together = all_steps(rt, text)?;
+    let lexed = alone.checked_div(1_000).unwrap_or(0);
+    let checked = together.checked_div(1_000).unwrap_or(0);
+    let each = together.checked_div(bytes as u128).unwrap_or(0);
+    let percent = together.saturating_mul(100).checked_div(alone).unwrap_or(0);
+    println!(rt; "{what}: {bytes} bytes: lexed in {lexed} us, together {checked} us, {each} ns a byte, {percent} hundredths")?;
+    Ok(())
+}
+
 fn main(rt: HostRuntime) -> Result<(), Fail> {
     let alloc = rt.alloc();
-    let texts = [
-        ("ordinary pages", ordinary(alloc, 183)?),
-        ("ordinary pages", ordinary(alloc, 366)?),
-        ("ordinary pages", ordinary(alloc, 733)?),
-        ("naming all before", all_named(alloc, 252)?),
-        ("naming some before", some_named(alloc, 29)?),
-    ];
-    for (what, text) in &texts {
-        let bytes = text.len();
-        let alone = lexing(&rt, alloc, text.as_str())?;
-        let together = all_steps(&rt, alloc, text.as_str())?;
-        let each = together.saturating_mul(1_000).checked_div(bytes as u128).unwrap_or(0);
-        let tenths = together.saturating_mul(10).checked_div(alone).unwrap_or(0);
-        println!(rt; "{what}, {bytes} bytes: lexed in {alone} us, together {together} us, {each} ns a byte, {tenths} tenths")?;
+    for count in [183u32, 366, 733] {
+        let text = ordinary(alloc, count)?;
+        report(&rt, "ordinary pages", text.as_str())?;
     }
-    Ok(())
+    let text = all_named(alloc, 252)?;
+    report(&rt, "252 of 1,000 components name all before them", text.as_str())?;
+    let text = some_named(alloc, 29)?;
+    report(&rt, "1,000 components name 29 before them", text.as_str())
 }
 RT

@@ -14,3 +14,5 @@ mod scripts;
 mod trees;
 #[cfg(test)]
 mod values;
+#[cfg(test)]
+mod whole_pages;

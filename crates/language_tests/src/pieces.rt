@@ -783,6 +783,14 @@ fn last_hole_in_words(
     hole_in_words(alloc, &plan, settled, flags)
 }
 
+/// A page behind no text, with none behind it.
+fn alone() -> Flags {
+    Flags {
+        lead: false,
+        embedded: false,
+    }
+}
+
 fn hole_in_words<'a>(
     alloc: Global,
     plan: &Plan<'a>,
@@ -791,11 +799,7 @@ fn hole_in_words<'a>(
 ) -> Result<String, Fail>
     requires { settled ≤ length plan.now.outcomes.now }
 {
-    let alone = Flags {
-        lead: false,
-        embedded: false,
-    };
-    let work = root_work(alloc, plan, 0, alone);
+    let work = root_work(alloc, plan, 0, alone());
     let Ok(Piece::Done { mut kids, .. }) = render_piece(alloc, plan, work) else {
         return Err(OutOfMemory.into());
     };
