@@ -1,11 +1,12 @@
 #!/bin/sh
-# Prints how long one piece of 1,000, 10,000 and 50,000 leaves takes, without a hole and with a hole at every leaf, and
-# how many times as long as escaping as many bytes. It builds a throw-away program in a temporary folder, over copies of
-# the crates.
+# Prints how long one piece of 1,000, 10,000 and 50,000 leaves takes, without a hole and with a hole at every leaf: in
+# milliseconds, in MB/s, in how many times what escaping as many bytes takes, and with which power of the leaves the time
+# grows. It builds a throw-away program in a temporary folder, over copies of the crates.
 set -eu
 . "$(dirname "$0")/frame.sh"
-time_over piece_bench fizz_text html_names html_print jsx_lex jsx_syntax jsx_check settle_script jsx_value \
-    fizz_piece sqlite_items <<'RT'
+rows=$(
+    time_over piece_bench fizz_text html_names html_print jsx_lex jsx_syntax jsx_check settle_script jsx_value \
+        fizz_piece sqlite_items <<'RT'
 #![tactic(auto)]
 
 ghost use Rattle.std.specs.Prelude.{◌≤◌, length};
@@ -20,6 +21,7 @@ use jsx_value::{Scope, Spot};
 use settle_script::read_script;
 use sqlite_items::{Boxed, Items};
 use std::alloc::Global;
+use std::rt::Clock;
 use std::test::Fail;
 use std::time::Instant;
 
@@ -65,7 +67,7 @@ fn leaf(alloc: Global, is_hole: bool) -> Result<Component, Fail> {
     })
 }
 
-/// `function App() { const all = use("all"); return <main>{all.map((n) => <Leaf n={n}/>)}</main>; }`
+/// `function App() { const all = use("all"); return <main>{all.map((n) => <li><Leaf n={n}/></li>)}</main>; }`
 fn page(alloc: Global, is_hole: bool) -> Result<File, Fail> {
     let argument = Entry {
         name: name("n"),
@@ -79,7 +81,7 @@ fn page(alloc: Global, is_hole: bool) -> Result<File, Fail> {
         list: Expr::Name(name("all")),
         item: name("n"),
         number: None,
-        body: Boxed::new(alloc, call)?,
+        body: Boxed::new(alloc, element(alloc, "li", call)?)?,
     };
     let mut components = one(alloc, leaf(alloc, is_hole)?)?;
     components.push(Component {
@@ -132,32 +134,69 @@ fn printed<'a>(alloc: Global, plan: &Plan<'a>) -> Result<Vec<u8>, Fail> {
     }
 }
 
-fn main(rt: HostRuntime) -> Result<(), Fail> {
+/// The bytes of the piece, and the least of five times, in nanoseconds.
+fn timed<'a, R: AllocGlobal + Clock>(rt: &R, plan: &Plan<'a>) -> Result<(Vec<u8>, u128), Fail> {
+    let mut bytes = Vec::new(rt.alloc());
+    let mut best: u128 = u128::MAX;
+    for _ in 0..5 {
+        let start = Instant::now(rt)?;
+        bytes = printed(rt.alloc(), plan)?;
+        best = best.min(start.elapsed(rt)?.as_nanos());
+    }
+    Ok((bytes, best))
+}
+
+/// The least of five times in which as many bytes are escaped.
+fn escaping<R: AllocGlobal + Clock>(rt: &R, bytes: &[u8]) -> Result<u128, Fail> {
+    let mut best: u128 = u128::MAX;
+    for _ in 0..5 {
+        let mut escaped = Vec::new(rt.alloc());
+        let start = Instant::now(rt)?;
+        push_escaped(&mut escaped, bytes)?;
+        best = best.min(start.elapsed(rt)?.as_nanos());
+    }
+    Ok(best)
+}
+
+fn report<R: AllocGlobal + Clock + Print>(
+    rt: &R,
+    what: &str,
+    app: &App,
+    leaves: u32,
+) -> Result<(), Fail> {
     let alloc = rt.alloc();
     let options = Options {
         prefix: Text::fixed(""),
         progressive: 12_800,
         chunk: 2_048,
     };
-    for is_hole in [false, true] {
-        let app = app_of(alloc, is_hole)?;
-        for leaves in [1_000u32, 10_000, 50_000] {
-            let text = script_text(alloc, leaves)?;
-            let script = read_script(alloc, text.as_bytes())?;
-            let Ok(plan) = Plan::new(alloc, &app, script.outcomes(), &options) else {
-                return Err(OutOfMemory.into());
-            };
-            let start = Instant::now(&rt)?;
-            let bytes = printed(alloc, &plan)?;
-            let micros = start.elapsed(&rt)?.as_micros();
-            let mut escaped = Vec::new(alloc);
-            let start = Instant::now(&rt)?;
-            push_escaped(&mut escaped, &bytes)?;
-            let escaping = start.elapsed(&rt)?.as_micros();
-            let count = bytes.len();
-            println!(rt; "{leaves} leaves, a hole at each: {is_hole}: {count} bytes in {micros} us, escaping {escaping} us")?;
-        }
+    let text = script_text(alloc, leaves)?;
+    let script = read_script(alloc, text.as_bytes())?;
+    let Ok(plan) = Plan::new(alloc, app, script.outcomes(), &options) else {
+        return Err(OutOfMemory.into());
+    };
+    let (bytes, printing) = timed(rt, &plan)?;
+    let escaping = escaping(rt, &bytes)?;
+    let count = bytes.len();
+    println!(rt; "{what};{leaves};{count};{printing};{escaping}")?;
+    Ok(())
+}
+
+fn main(rt: HostRuntime) -> Result<(), Fail> {
+    let alloc = rt.alloc();
+    for leaves in [1_000u32, 10_000, 50_000] {
+        report(&rt, "no hole", &app_of(alloc, false)?, leaves)?;
+    }
+    for leaves in [1_000u32, 10_000, 50_000] {
+        report(&rt, "a hole at each leaf", &app_of(alloc, true)?, leaves)?;
     }
     Ok(())
 }
 RT
+)
+echo "$rows" | awk -F';' '{
+    power = $1 == what ? sprintf(", power %.2f", log($4 / time) / log($2 / leaves)) : ""
+    printf "%s, %d leaves: %d bytes in %.2f ms, %.1f MB/s, %.1f times escaping%s\n",
+        $1, $2, $3, $4 / 1e6, $3 * 1e3 / $4, $4 / $5, power
+    what = $1; leaves = $2; time = $4
+}'

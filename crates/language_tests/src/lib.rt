@@ -7,6 +7,12 @@ mod checks;
 #[cfg(test)]
 mod pages;
 #[cfg(test)]
+mod pieces;
+#[cfg(test)]
 mod scripts;
 #[cfg(test)]
 mod trees;
+#[cfg(test)]
+mod values;
+#[cfg(test)]
+mod whole_pages;
