@@ -1,3 +1,6 @@
 pub mod Spelling
 pub mod Printing
 pub mod Seen
+pub mod Rows
+pub mod Sound
+pub mod Printed

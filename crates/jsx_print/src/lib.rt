@@ -6,6 +6,7 @@
 
 mod expression;
 mod file;
+mod laws;
 mod node;
 mod stmt;
 #[cfg(test)]
@@ -13,3 +14,4 @@ mod tests;
 mod words;
 
 pub use file::print;
+pub use laws::{printed_bytes, printed_words};
