@@ -1,5 +1,5 @@
 -- Printed elements, attributes and children as productions.
-use Rattle.std.proofs.Common.{◌≡◌, ◌≤◌, ℕ, zero, suc, ◌+◌, Bool, true, false, nat_le, if◌then◌else◌, List, [], ◌∷◌, ◌++◌, map, codes, refl, sym, ap, subst, ◌∙◌, inl, inr, ⊎_elim, append-nil, append_assoc, arith}
+use Rattle.std.proofs.Common.{◌≡◌, ℕ, ◌+◌, Bool, true, false, nat_le, if◌then◌else◌, List, [], ◌∷◌, ◌++◌, map, refl, sym, ap, subst, ◌∙◌, inl, inr, ⊎_elim, append-nil, append_assoc}
 use Rattle.std.specs.List.{flat_map}
 use Rattle.std.proofs.lemmas.Bool.{cases_Bool, leb-true}
 use Rattle.std.proofs.lemmas.Grind.{flat_map-append}
@@ -10,7 +10,6 @@ use Rattle.jsx_lex.specs.declared.word.Punctuator.TheVariants as p
 use Rattle.jsx_syntax.specs.declared.name.Name.{Name}
 use Rattle.jsx_syntax.specs.declared.name.Entry.{Entry}
 use Rattle.jsx_syntax.specs.declared.expr.Expr.{Expr}
-use Rattle.jsx_syntax.specs.declared.expr.Expr.TheVariants as e
 use Rattle.jsx_syntax.specs.declared.node.Node.{Node}
 use Rattle.jsx_syntax.specs.declared.node.Node.TheVariants as n
 use Rattle.jsx_syntax.specs.Trees.{node_of, other, is_suspense, is_component_name, entry, element_of}
@@ -19,10 +18,10 @@ use Rattle.jsx_syntax.specs.Words.{name_word, takes_children, is_fallback, is_no
 use Rattle.jsx_syntax.specs.Grammar.{Sort, Syntax, spell, tree, Fits, HasRoom}
 use Rattle.jsx_syntax.specs.Grammar as g
 use Rattle.jsx_print.specs.Sound.{IsTagName}
-use Rattle.jsx_print.specs.Printing.{Printed, so_tight, keyword, in_braces, attribute_words, tag_words, kid_words, rest_words, element_words, fragment_words, printed, printed_node}
+use Rattle.jsx_print.specs.Printing.{Printed, so_tight, keyword, in_braces, attribute_words, kid_words, element_words, printed, printed_node}
 use Rattle.jsx_print.specs.Seen.{printed_entry}
 use Rattle.jsx_print.proofs.Forms.{Spells, At, Prints, whole_good}
-use Rattle.jsx_print.proofs.NodeForms.{Part, value_part, NodeAt, PartPrints, Whole, whole_part, as_loose, printed-Value, printed-Host, printed-Call, printed-Fragment, printed-Suspense, ElementPrints}
+use Rattle.jsx_print.proofs.NodeForms.{Part, value_part, NodeAt, PartPrints, Whole, as_loose, printed-Value, printed-Host, printed-Call, printed-Fragment, printed-Suspense, ElementPrints}
 
 -- Attributes. The value stands in braces.
 

@@ -1,8 +1,7 @@
 -- Printed expressions as productions: an expression's own words are those of its own nonterminal, and where it stands in a
 -- tighter place, those of parentheses.
-use Rattle.std.proofs.Common.{◌≡◌, ◌≤◌, ◌<◌, ℕ, zero, suc, ◌+◌, Bool, true, false, nat_le, nat_lt, if◌then◌else◌, List, [], ◌∷◌, ◌++◌, map, codes, refl, sym, ap, subst, ◌∙◌, ⊎_elim, append-nil, append_assoc, arith, ℤ}
-use Rattle.std.specs.List.{flat_map}
-use Rattle.std.proofs.lemmas.Bool.{cases_Bool, cases_lt, leb-true, leb-false, le-leb, lt-leb, lt-ltb, ltb-true}
+use Rattle.std.proofs.Common.{◌≡◌, ◌≤◌, ◌<◌, ℕ, zero, suc, ◌+◌, Bool, true, false, nat_le, if◌then◌else◌, List, [], ◌∷◌, ◌++◌, map, codes, refl, sym, ap, subst, ◌∙◌, ⊎_elim, append-nil, append_assoc, arith, ℤ}
+use Rattle.std.proofs.lemmas.Bool.{cases_Bool, cases_lt, leb-true, leb-false, lt-leb, lt-ltb, ltb-true}
 use Rattle.std.proofs.lemmas.Grind.{flat_map-append}
 use Rattle.std.proofs.lemmas.List.{map-append}
 use Rattle.jsx_lex.specs.declared.word.Word.{Word}
@@ -19,7 +18,7 @@ use Rattle.jsx_syntax.specs.Words.{nesting_limit, name_word}
 use Rattle.jsx_syntax.specs.Grammar.{Sort, Syntax, Meaning, spell, tree, Fits, HasRoom, equal_sign}
 use Rattle.jsx_syntax.specs.Grammar as g
 use Rattle.jsx_print.specs.Sound.{Sound, IsCodeName}
-use Rattle.jsx_print.specs.Printing.{Printed, so_tight, sign, keyword, in_parens, operand, later_operands, chain, truth_word, names_words, member_words, equal_words, choice_words, printed_step, printed}
+use Rattle.jsx_print.specs.Printing.{Printed, so_tight, keyword, in_parens, operand, later_operands, chain, truth_word, names_words, member_words, equal_words, choice_words, printed_step, printed}
 
 true_false : true ≡ false → ⊥
 true_false is = cc

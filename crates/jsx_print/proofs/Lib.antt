@@ -7,3 +7,4 @@ pub mod RowForms
 pub mod PrintedLemmas
 pub mod RowLemmas
 pub mod SourceLemmas
+pub mod AsideLemmas

@@ -1,22 +1,19 @@
 -- Printed nodes as productions, as it is with expressions.
 use Rattle.std.proofs.Common.{◌≡◌, ◌≤◌, ◌<◌, ℕ, zero, suc, ◌+◌, Bool, true, false, nat_le, if◌then◌else◌, List, [], ◌∷◌, ◌++◌, map, codes, Option, Some, None, refl, sym, ap, subst, ◌∙◌, ◌⊎◌, inl, inr, ⊎_elim, Result, Ok, Err, append-nil, append_assoc, arith}
-use Rattle.std.specs.List.{flat_map}
-use Rattle.std.proofs.lemmas.Bool.{cases_Bool, cases_lt, leb-true, leb-false, le-leb, lt-leb}
+use Rattle.std.proofs.lemmas.Bool.{cases_Bool, cases_lt, leb-true, leb-false, lt-leb}
 use Rattle.std.proofs.lemmas.Grind.{flat_map-append}
 use Rattle.std.proofs.lemmas.List.{map-append}
 use Rattle.jsx_lex.specs.declared.word.Word.{Word}
 use Rattle.jsx_lex.specs.declared.word.Word.TheVariants as w
-use Rattle.jsx_lex.specs.declared.word.Punctuator.{Punctuator}
 use Rattle.jsx_lex.specs.declared.word.Punctuator.TheVariants as p
 use Rattle.jsx_syntax.specs.declared.name.Name.{Name}
 use Rattle.jsx_syntax.specs.declared.name.Entry.{Entry}
 use Rattle.jsx_syntax.specs.declared.expr.Expr.{Expr}
-use Rattle.jsx_syntax.specs.declared.expr.Expr.TheVariants as e
 use Rattle.jsx_syntax.specs.declared.node.Node.{Node}
 use Rattle.jsx_syntax.specs.declared.node.Node.TheVariants as n
 use Rattle.jsx_syntax.specs.declared.node.Node.TheOpen as layer
 use Rattle.jsx_syntax.specs.declared.node.Node.TheFolds.{fold-roll-Node}
-use Rattle.jsx_syntax.specs.Trees.{member_of, and_of, or_of, node_of, other, choose_part, and_part, or_part}
+use Rattle.jsx_syntax.specs.Trees.{or_of, node_of, other, choose_part, and_part, or_part}
 use Rattle.jsx_syntax.specs.Words.{name_word}
 use Rattle.jsx_syntax.specs.Steps.{part_value}
 use Rattle.jsx_syntax.specs.declared.fault.Wanted.{Wanted}
@@ -24,7 +21,7 @@ use Rattle.jsx_syntax.specs.declared.fault.Wanted.TheVariants as wanted
 use Rattle.jsx_syntax.specs.Grammar.{Sort, Syntax, Meaning, spell, tree, Fits, HasRoom, IsName, AreNames}
 use Rattle.jsx_syntax.specs.Grammar as g
 use Rattle.jsx_print.specs.Sound.{IsCodeName, AreCodeNames}
-use Rattle.jsx_print.specs.Printing.{Printed, so_tight, sign, keyword, in_parens, in_braces, operand, chain, choice_words, last_words, later_items, items_words, array_words, number_words, variables_words, map_words, attribute_words, tag_words, kid_words, rest_words, element_words, fragment_words, node_step, printed, printed_node}
+use Rattle.jsx_print.specs.Printing.{Printed, so_tight, keyword, in_parens, operand, chain, choice_words, last_words, later_items, items_words, array_words, variables_words, map_words, element_words, fragment_words, node_step, printed, printed_node}
 use Rattle.jsx_print.specs.Seen.{printed_entry}
 use Rattle.jsx_print.proofs.Forms.{Spells, At, Prints, whole_good, operand_good, wider, Ands, Ors, ands_more, ands_good, ors_more, ors_good, choice_good, choice_spelled}
 
@@ -289,13 +286,13 @@ choice_part c one two o room test (inr v) u =
 -- The last operand of a chain.
 
 -- an expression as the last operand of `&&`, and as the whole of one
-abbrev as_equality : Syntax g.expression → Syntax g.equality
+abbrev pub as_equality : Syntax g.expression → Syntax g.equality
 as_equality c = g.no_equal (g.no_plus (g.no_bang (g.no_member (g.parens c))))
 
-abbrev and_syntax : Syntax g.conjunction → Syntax g.expression → Syntax g.expression
+abbrev pub and_syntax : Syntax g.conjunction → Syntax g.expression → Syntax g.expression
 and_syntax c d = g.no_choice (g.no_or (g.and c (as_equality d)))
 
-abbrev or_syntax : Syntax g.disjunction → Syntax g.expression → Syntax g.expression
+abbrev pub or_syntax : Syntax g.disjunction → Syntax g.expression → Syntax g.expression
 or_syntax c d = g.no_choice (g.or c (g.no_and (as_equality d)))
 
 and_node_good : (xs : List Expr) (x : Node) (o : ℕ) → Ands xs o → NodePrints x 3 o → PartPrints 2 2 (and_part xs (other x)) o

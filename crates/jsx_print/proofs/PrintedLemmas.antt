@@ -1,12 +1,11 @@
 -- What is printed for a tree is a text of it: `prints`, one recursion over all productions.
-use Rattle.std.proofs.Common.{◌≡◌, ℕ, ◌+◌, Bool, true, false, List, [], ◌∷◌, ◌++◌, map, codes, Option, Some, None, ℤ, refl, sym, ap, subst, ◌∙◌, inl, inr, append-nil, append_assoc, arith}
+use Rattle.std.proofs.Common.{◌≡◌, ℕ, ◌+◌, true, false, List, [], ◌∷◌, ◌++◌, codes, ℤ, refl, sym, ap, subst, ◌∙◌, inl, inr, append-nil, append_assoc, arith}
 use Rattle.std.specs.List.{flat_map}
 use Rattle.std.proofs.lemmas.Grind.{flat_map-append}
 use Rattle.jsx_lex.specs.declared.word.Word.{Word}
 use Rattle.jsx_lex.specs.declared.word.Word.TheVariants as w
 use Rattle.jsx_lex.specs.declared.word.Punctuator.TheVariants as p
 use Rattle.jsx_syntax.specs.declared.name.Name.{Name}
-use Rattle.jsx_syntax.specs.declared.name.Entry.{Entry}
 use Rattle.jsx_syntax.specs.declared.expr.Expr.{Expr}
 use Rattle.jsx_syntax.specs.declared.expr.Expr.TheVariants as e
 use Rattle.jsx_syntax.specs.declared.node.Node.{Node}
@@ -24,9 +23,9 @@ use Rattle.jsx_print.proofs.RowForms.{file_row}
 use Rattle.jsx_print.proofs.SourceLemmas.{sound_of}
 use Rattle.jsx_lex.specs.ModeStack.{first_modes}
 use Rattle.jsx_print.specs.Sound.{Sound, IsCodeName}
-use Rattle.jsx_print.specs.Printing.{Printed, so_tight, sign, keyword, in_parens, in_braces, truth_word, stmt_words, later_names, properties_words, head_words, component_words, file_words, printed, printed_node}
+use Rattle.jsx_print.specs.Printing.{keyword, stmt_words, later_names, properties_words, component_words, file_words, printed, printed_node}
 use Rattle.jsx_print.specs.Printed.{IsShallow}
-use Rattle.jsx_print.proofs.Forms.{Spells, room_less, At, Good, Prints, whole_good, wider, one_word, printed-Null, printed-Bool, printed-Int, printed-Text, printed-Name, Members, no_members, one_member, members_good, not_good, Sums, sums_one, sums_more, sums_good, Ands, ands_one, ands_more, ands_good, Ors, ors_one, ors_more, ors_good, equal_good, choice_good}
+use Rattle.jsx_print.proofs.Forms.{Spells, room_less, At, Prints, whole_good, wider, one_word, printed-Null, printed-Bool, printed-Int, printed-Text, printed-Name, Members, no_members, one_member, members_good, not_good, Sums, sums_one, sums_more, sums_good, Ands, ands_one, ands_more, ands_good, Ors, ors_one, ors_more, ors_good, equal_good, choice_good}
 use Rattle.jsx_print.proofs.NodeForms.{Part, value_part, one_value, no_both, NodePrints, a_node, a_value, PartPrints, wider_part, Whole, whole_part, choice_part, and_part_good, or_part_good, Items, items_one, items_more, no_items, array_good, map_good, ElementPrints, element_part}
 use Rattle.jsx_print.proofs.ElementForms.{Attribute, value_attribute, node_attribute, Attributes, no_attributes, one_attribute, Kids, element_kid, part_kid, Children, no_children, one_child, element_good, fragment_good}
 

@@ -1,5 +1,5 @@
 -- The words of sound productions stand in a row, before words that do.
-use Rattle.std.proofs.Common.{◌≡◌, ◌≢◌, ℕ, Bool, true, false, List, [], ◌∷◌, ◌++◌, codes, Option, Some, None, refl, sym, ap, ◌∙◌}
+use Rattle.std.proofs.Common.{◌≡◌, ◌≢◌, ℕ, Bool, true, false, List, [], ◌∷◌, codes, Some, None, refl, sym, ap, ◌∙◌}
 use Rattle.jsx_lex.specs.ModeStack.{ModesAt, first_modes, modes_after}
 use Rattle.jsx_lex.specs.declared.mode.Mode.{Mode}
 use Rattle.jsx_lex.specs.declared.mode.Mode.TheVariants.{Code, Tag, Children, Close}
@@ -9,13 +9,12 @@ use Rattle.jsx_lex.specs.declared.word.Word.{Word}
 use Rattle.jsx_lex.specs.declared.word.Word.TheVariants as w
 use Rattle.jsx_lex.specs.declared.word.Punctuator.{Punctuator}
 use Rattle.jsx_lex.specs.declared.word.Punctuator.TheVariants as p
-use Rattle.jsx_syntax.specs.declared.name.Name.{Name}
 use Rattle.jsx_syntax.specs.Trees.{is_suspense}
 use Rattle.jsx_syntax.specs.Words.{name_word}
 use Rattle.jsx_syntax.specs.Grammar.{Sort, Syntax, spell, equal_sign}
 use Rattle.jsx_syntax.specs.Grammar as g
 use Rattle.jsx_print.specs.Rows.{change_of, NoSlash, Row}
-use Rattle.jsx_print.specs.Sound.{Sound, IsCodeName, IsTagName}
+use Rattle.jsx_print.specs.Sound.{Sound}
 
 abbrev at_mode : Mode → List Mode → ModesAt
 at_mode m around = record { mode = m; around = around }

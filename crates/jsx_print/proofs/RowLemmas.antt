@@ -1,5 +1,5 @@
 -- Words in a row have exactly the tokens that say them.
-use Rattle.std.proofs.Common.{◌≡◌, ◌≢◌, ℕ, ◌+◌, ◌-◌, ◌<◌, ◌==◌, ◌&&◌, ◌⊎◌, nat_eq, Bool, true, false, inl, inr, if◌then◌else◌, List, [], ◌∷◌, ◌++◌, length, take, drop, map, codes, slice_range, Option, Some, None, unwrap_or, All, ℤ, refl, sym, ap, subst, ◌∙◌, ⊎_elim, arith, append_assoc, append-nil, length-append}
+use Rattle.std.proofs.Common.{◌≡◌, ◌≢◌, ℕ, ◌+◌, ◌-◌, ◌==◌, ◌&&◌, ◌⊎◌, nat_eq, Bool, true, false, inl, inr, if◌then◌else◌, List, [], ◌∷◌, ◌++◌, length, take, drop, map, codes, slice_range, Option, Some, None, unwrap_or, All, ℤ, refl, sym, ap, subst, ◌∙◌, ⊎_elim, arith, append_assoc, append-nil, length-append}
 use Rattle.std.specs.List.{flat_map, list_all}
 use Rattle.std.specs.Fmt.{signed_decimal}
 use Rattle.std.specs.Char.{is_ascii_digit}
@@ -9,20 +9,19 @@ use Rattle.std.proofs.lemmas.List.Elements.{All-nil, All-cons}
 use Rattle.jsx_lex.specs.Characters.{is_name_start, is_name_part, is_tag_name_part}
 use Rattle.jsx_lex.specs.Lexemes.{Lexeme, HasForm, Stands, spellings, Leads}
 use Rattle.jsx_lex.specs.ModeStack.{ModesAt, first_modes, modes_after}
-use Rattle.jsx_lex.specs.SignTable.{SignRow, row, signs_of, first_sign, code_signs, tag_signs, children_signs, close_signs}
+use Rattle.jsx_lex.specs.SignTable.{row, signs_of, first_sign, code_signs, tag_signs, children_signs, close_signs}
 use Rattle.jsx_lex.specs.Words.{IsName, IsNumber, IsStr}
 use Rattle.jsx_lex.specs.StringParts.{StringPart, plain, escaped, spelling_of, meaning_of, IsPart}
 use Rattle.jsx_lex.specs.Meanings.{string_text_of}
-use Rattle.jsx_lex.specs.TokenLists.{AreTokens, token_at, tokens_from}
-use Rattle.jsx_lex.specs.TokenMeanings.{punctuator_rows, punctuator_of, word_of, word_at, words_of}
-use Rattle.jsx_lex.specs.declared.token.Token.{Token}
+use Rattle.jsx_lex.specs.TokenLists.{token_at, tokens_from}
+use Rattle.jsx_lex.specs.TokenMeanings.{punctuator_rows, punctuator_of, word_of, word_at}
 use Rattle.jsx_lex.proofs.StringTextLemmas.{string_text_of-is}
 use Rattle.jsx_lex.specs.declared.mode.Mode.{Mode}
 use Rattle.jsx_lex.specs.declared.mode.Mode.TheVariants.{Code, Tag, Children, Close}
 use Rattle.jsx_lex.specs.declared.mode.Change.{Change}
-use Rattle.jsx_lex.specs.declared.mode.Change.TheVariants.{Keep, Push, Turn, Pop}
+use Rattle.jsx_lex.specs.declared.mode.Change.TheVariants.{Keep, Push}
 use Rattle.jsx_lex.specs.declared.token.TokenKind.{TokenKind}
-use Rattle.jsx_lex.specs.declared.token.TokenKind.TheVariants.{Name, Number, Str, TagStr, JsxText, Sign}
+use Rattle.jsx_lex.specs.declared.token.TokenKind.TheVariants.{Name, Number, Str, Sign}
 use Rattle.jsx_lex.specs.declared.word.Word.{Word}
 use Rattle.jsx_lex.specs.declared.word.Word.TheVariants as w
 use Rattle.jsx_lex.specs.declared.word.Punctuator.{Punctuator}

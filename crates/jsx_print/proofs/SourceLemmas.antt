@@ -1,5 +1,5 @@
 -- The words of a text's tokens stand in a row, and so the names and numbers of their productions are the lexer's.
-use Rattle.std.proofs.Common.{◌≡◌, ℕ, ◌+◌, zero, suc, ◌<◌, ◌^◌, ◌==◌, Bool, true, false, cond, if◌then◌else◌, ◌⊎◌, inl, inr, List, [], ◌∷◌, ◌++◌, length, get_or, drop, map, codes, Option, Some, None, ℤ, pos, neg_ℤ, refl, sym, ap, subst, ◌∙◌, arith, append-nil}
+use Rattle.std.proofs.Common.{◌≡◌, ℕ, ◌+◌, zero, suc, ◌<◌, ◌^◌, ◌==◌, Bool, true, false, if◌then◌else◌, ◌⊎◌, inl, inr, List, [], ◌∷◌, ◌++◌, length, map, codes, Option, Some, None, pos, neg_ℤ, refl, sym, ap, subst, ◌∙◌, arith, append-nil}
 use Rattle.std.specs.Char.{is_ascii_digit}
 use Rattle.std.specs.Fmt.{decimal, signed_decimal}
 use Rattle.std.specs.List.{list_all}
@@ -7,7 +7,7 @@ use Rattle.std.specs.Str.Parse.{AllDigits, digits_value}
 use Rattle.std.proofs.lemmas.Bool.{ne_eqb}
 use Rattle.std.proofs.lemmas.Fmt.{decimal-digits_value}
 use Rattle.std.proofs.lemmas.Str.Parse.{numerals_by_value, tells_digits}
-use Rattle.jsx_lex.specs.Lexemes.{Lexeme, HasForm, IsSign, Stands, spellings, Leads}
+use Rattle.jsx_lex.specs.Lexemes.{Lexeme, HasForm, IsSign, spellings, Leads}
 use Rattle.jsx_lex.specs.Meanings.{number_of}
 use Rattle.jsx_lex.specs.ModeStack.{ModesAt, first_modes, modes_after}
 use Rattle.jsx_lex.specs.SignTable.{SignRow, row, signs_of, first_sign, code_signs, tag_signs, children_signs, close_signs}

@@ -5,7 +5,9 @@ use Rattle.jsx_lex.specs.TokenMeanings.{words_of}
 use Rattle.jsx_lex.specs.declared.token.Token.{Token}
 use Rattle.jsx_lex.specs.declared.word.Word.{Word}
 use Rattle.jsx_syntax.specs.declared.file.File.{File}
-use Rattle.jsx_syntax.specs.Grammar.{Syntax, spell, tree, Fits, components}
+use Rattle.jsx_syntax.specs.Grammar.{Syntax, spell, tree, Fits, components, SpellsFile}
+use Rattle.jsx_print.specs.Aside.{bare_file}
+use Rattle.jsx_print.specs.Printing.{file_words}
 use Rattle.jsx_print.specs.Rows.{placed}
 use Rattle.jsx_print.specs.Spelling as spelling
 
@@ -24,3 +26,11 @@ pub record IsLexed (words : List Word) : Type 0 where
   pub tokens : List Token
   pub are_tokens : AreTokens (spelling.spelled words) tokens
   pub words_are : words_of (spelling.spelled words) tokens ≡ placed 0 words
+
+-- The bytes that are printed for the file have tokens that spell a file, which is this one but for the places of names.
+pub record IsReread (file : File) : Type 0 where
+  pub tokens : List Token
+  pub are_tokens : AreTokens (spelling.spelled (file_words file)) tokens
+  pub again : File
+  pub spells : SpellsFile (words_of (spelling.spelled (file_words file)) tokens) again
+  pub same : bare_file again ≡ bare_file file

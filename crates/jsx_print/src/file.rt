@@ -14,9 +14,8 @@ use jsx_lex::Punctuator;
 use jsx_syntax::{Component, File, Name, Node};
 use std::alloc::Global;
 
-/// The text of a file: exactly the bytes of its words, by the definition. The laws beside it say that these words spell
-/// the file, and that they are what the lexer reads in the bytes, each name at its place there. That the tree with these
-/// other places is the same one but for them is tested by rows, and no clause says so.
+/// The text of a file: exactly the bytes of its words, by the definition. The law `printed_texts` says that lexing and
+/// parsing it gives the file back, places aside, where the file is that of a text whose nesting is at most 199.
 ///
 /// Takes time and memory in proportion to the text. The recursion goes down the tree's nesting, at most 200 levels of the
 /// source in a file that was parsed; children, operands, statements and components are gone through by loops.

@@ -14,4 +14,4 @@ mod tests;
 mod words;
 
 pub use file::print;
-pub use laws::{printed_bytes, printed_words};
+pub use laws::{printed_bytes, printed_texts, printed_words};
