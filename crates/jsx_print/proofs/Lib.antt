@@ -1,0 +1,10 @@
+pub mod Utf8Lemmas
+pub mod StepLemmas
+pub mod Forms
+pub mod NodeForms
+pub mod ElementForms
+pub mod RowForms
+pub mod PrintedLemmas
+pub mod RowLemmas
+pub mod SourceLemmas
+pub mod AsideLemmas
