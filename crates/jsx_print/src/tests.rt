@@ -77,10 +77,14 @@ fn push_reading(alloc: Global, reading: &mut Reading, file: &File) -> Result<(),
 
 /// Appends the text of a tree without the places of its names.
 fn push_without_places(out: &mut String, tree: &str) -> Result<(), AllocError> {
-    let mut rest = tree;
-    while let Some((front, more)) = rest.split_once(", at: ") {
-        out.push_str(front)?;
-        rest = more.trim_start_matches(|c: char| c.is_ascii_digit());
+    let mut is_first = true;
+    for part in tree.split(", at: ") {
+        if is_first {
+            out.push_str(part)?;
+        } else {
+            out.push_str(part.trim_start_matches(|c: char| c.is_ascii_digit()))?;
+        }
+        is_first = false;
     }
-    out.push_str(rest)
+    Ok(())
 }
