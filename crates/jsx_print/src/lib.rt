@@ -9,8 +9,6 @@ mod file;
 mod laws;
 mod node;
 mod stmt;
-#[cfg(test)]
-mod tests;
 mod words;
 
 pub use file::print;

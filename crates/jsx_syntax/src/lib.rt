@@ -24,8 +24,6 @@ mod places;
 mod rule;
 mod stack;
 mod state;
-#[cfg(test)]
-mod tests;
 
 pub use app::App;
 pub use expr::Expr;

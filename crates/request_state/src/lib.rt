@@ -17,4 +17,5 @@ pub use closing::Busy;
 pub use committing::CommitRefused;
 pub use flushing::Flushed;
 pub use job::{Claim, Job, Place};
+pub use making::{Made, Twin};
 pub use state::{Fate, State};

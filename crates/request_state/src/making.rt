@@ -23,14 +23,14 @@ use std::alloc::Global;
 
 /// A position twice: one to be handed out, and one to be kept.
 #[derive(Drop)]
-pub(crate) struct Twin<'a> {
-    pub(crate) given: Place<'a>,
-    pub(crate) kept: Place<'a>,
+pub struct Twin<'a> {
+    pub given: Place<'a>,
+    pub kept: Place<'a>,
 }
 
 /// A kid of a piece, with all the memory that it takes.
 #[derive(Drop)]
-pub(crate) enum Made<'a> {
+pub enum Made<'a> {
     Hole {
         at: usize,
         lead: bool,

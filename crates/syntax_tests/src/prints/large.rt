@@ -1,7 +1,7 @@
 //! Files of full size: many siblings, long chains, and deep nests.
 
-use crate::print;
 use jsx_lex::lex;
+use jsx_print::print;
 use jsx_syntax::parse;
 use std::alloc::{AllocError, Global};
 use std::test::Fail;

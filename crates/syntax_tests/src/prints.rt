@@ -4,8 +4,8 @@ mod files;
 mod large;
 mod values;
 
-use crate::print;
 use jsx_lex::lex;
+use jsx_print::print;
 use jsx_syntax::{File, parse};
 use std::alloc::{AllocError, Global};
 

@@ -1,6 +1,6 @@
 //! Values and nodes.
 
-use crate::tests::{Row, values_misprinted};
+use crate::prints::{Row, values_misprinted};
 use std::test::Fail;
 
 /// Expressions: parentheses stand where the grammar needs them, and nowhere else.

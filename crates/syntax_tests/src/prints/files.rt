@@ -1,6 +1,6 @@
 //! Whole files.
 
-use crate::tests::{Row, files_misprinted};
+use crate::prints::{Row, files_misprinted};
 use std::test::Fail;
 
 static FILES: [Row; 7] = [

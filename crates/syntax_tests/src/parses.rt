@@ -1,7 +1,7 @@
 //! Component files that are read, and refused ones with the place and what would have been accepted.
 
-use crate::{Expr, File, Node, SyntaxFault, Wanted, parse};
 use jsx_lex::lex;
+use jsx_syntax::{Expr, File, Node, SyntaxFault, Wanted, parse};
 use std::alloc::{AllocError, Global};
 use std::process::Abort;
 use std::test::Fail;
