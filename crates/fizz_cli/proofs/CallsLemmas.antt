@@ -50,7 +50,7 @@ still_told may_write None after at kept told = absurd (none_told at told)
 -- serving
 
 pub accepts_output : (at : Contents) (command : Command) (now : Contents) (written : List ℕ) → Completes at command now written → Accepts at command
-accepts_output at (Render app script options workers) now written is = (written, is)
+accepts_output at (Render app script options workers) now written is = (is.sources, is.accepted)
 accepts_output at (Show file prefix) now written is = (written, is)
 accepts_output at (Tree app script prefix) now written is = (written, is)
 

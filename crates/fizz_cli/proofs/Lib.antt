@@ -8,3 +8,4 @@ mod SourcesLemmas
 mod StillLemmas
 mod RenderingLemmas
 mod TreesLemmas
+mod SendingLemmas

@@ -25,7 +25,7 @@ use Rattle.jsx_check.specs.declared.fault.CheckFault.TheVariants as check
 use Rattle.fizz_cli.specs.ProgramFiles.{AcceptsProgram, HasCheckFault, HasSyntaxFault, IsProgram, IsTextOf, RefusesProgram, RefusesProgramBytes, most_program_bytes}
 use Rattle.fizz_cli.specs.declared.refusal.FileFault.TheVariants.{Program}
 use Rattle.fizz_cli.specs.declared.refusal.ProgramFault.{ProgramFault}
-use Rattle.fizz_cli.specs.declared.refusal.ProgramFault.TheVariants.{NotUtf8, LexFault, SyntaxFault, TooManyComponents, UnknownName, UnknownElement, UnknownAttribute, TwiceDefined, UsedBeforeDefined, FallbackNotPlain, NoApp, TooDeep, TooLarge, Unbuilt}
+use Rattle.fizz_cli.specs.declared.refusal.ProgramFault.TheVariants.{NotUtf8, LexFault, SyntaxFault, TooManyComponents, UnknownName, UnknownElement, UnknownAttribute, TwiceDefined, UsedBeforeDefined, FallbackNotPlain, NoApp, TooDeep, TooLarge}
 use Rattle.fizz_cli.specs.declared.refusal.Refusal.{Refusal}
 use Rattle.fizz_cli.proofs.RefusalsLemmas.{not_cut, same_valid}
 use Rattle.fizz_cli.proofs.StepsLemmas.{file_excludes, same_bytes}
@@ -86,7 +86,6 @@ program_cause bytes (FallbackNotPlain at) r = checked (check.FallbackNotPlain at
 program_cause bytes NoApp r = checked check.NoApp refl r
 program_cause bytes (TooDeep depth) r = checked (check.TooDeep depth) refl r
 program_cause bytes (TooLarge limit) r = absurd r
-program_cause bytes Unbuilt r = absurd r
 
 module _ (laws : ProgramLaws) where
   same_file : (bytes : List ℕ) (a b : File) → IsTextOf bytes a → IsTextOf bytes b → a ≡ b

@@ -65,7 +65,6 @@ found_as (script.NotEvent index) = settled.NotEvent index
 found_as (script.DigestTooLong index size) = settled.DigestTooLong index size
 found_as (script.BadValue index) = settled.BadValue index
 found_as (script.SettledTwice index first) = settled.SettledTwice index first
-found_as script.Unbuilt = settled.OutOfMemory
 
 abbrev back : settle.ScriptFault → ScriptFault
 back settled.NotJson = script.NotJson
@@ -74,7 +73,7 @@ back (settled.NotEvent index) = script.NotEvent index
 back (settled.DigestTooLong index size) = script.DigestTooLong index size
 back (settled.BadValue index) = script.BadValue index
 back (settled.SettledTwice index first) = script.SettledTwice index first
-back settled.OutOfMemory = script.Unbuilt
+back settled.OutOfMemory = script.NotJson
 
 back-found_as : (f : ScriptFault) → back (found_as f) ≡ f
 back-found_as script.NotJson = refl
@@ -83,7 +82,6 @@ back-found_as (script.NotEvent index) = refl
 back-found_as (script.DigestTooLong index size) = refl
 back-found_as (script.BadValue index) = refl
 back-found_as (script.SettledTwice index first) = refl
-back-found_as script.Unbuilt = refl
 
 record ScriptCause (bytes : List ℕ) (f : ScriptFault) : Type 0 where
   pub given : IsUtf8 bytes → script_of (read bytes) ≡ Err (found_as f)
@@ -96,7 +94,6 @@ script_cause bytes (script.NotEvent index) r = record { given = λ utf8. r.1; kn
 script_cause bytes (script.DigestTooLong index size) r = record { given = λ utf8. r.1; known = inr r.0 }
 script_cause bytes (script.BadValue index) r = record { given = λ utf8. r.1; known = inr r.0 }
 script_cause bytes (script.SettledTwice index first) r = record { given = λ utf8. r.1; known = inr r.0 }
-script_cause bytes script.Unbuilt r = absurd r
 
 script_sound : (bytes : List ℕ) (lines : List Event) (f : ScriptFault) → IsScript bytes lines → RefusesScriptBytes bytes f → ⊥
 script_sound bytes lines f s r = apart_results _ lines (found_as f) s.lines ((script_cause bytes f r).given s.text)

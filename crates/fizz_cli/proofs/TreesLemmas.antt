@@ -52,21 +52,32 @@ no_first_of : (ds : List (List ℕ)) → None ≡ slice_get ds 0 → ds ≡ []
 no_first_of [] e = refl
 no_first_of (d ∷ ds) e = cc
 
--- the forest of a page, where nothing is too large
+-- the forest of a page
 module _ (page : Page) (nodes : List FNode) (is : nodes ≡ forest_of page)
-    (law : fails (settled_nodes (forest_of page)) ≡ fails (settled_tree page))
-    (failures : List (List ℕ)) (are : failures ≡ fails (settled_nodes nodes)) (light : page_weight page ≤ most_weight) where
-  same_failures : failures ≡ fails (settled_tree page)
-  same_failures = are ∙ (ap (λ (n : List FNode). fails (settled_nodes n)) is ∙ law)
+    (law : fails (settled_nodes (forest_of page)) ≡ fails (settled_tree page)) where
+  forest_failures : fails (settled_nodes nodes) ≡ fails (settled_tree page)
+  forest_failures = ap (λ (n : List FNode). fails (settled_nodes n)) is ∙ law
 
-  pub first_failure : (app digest copy : List ℕ) → Some digest ≡ slice_get failures 0 → copy ≡ digest
+  pub first_failure : (failures : List (List ℕ)) → failures ≡ fails (settled_nodes nodes) → page_weight page ≤ most_weight
+      → (app digest copy : List ℕ) → Some digest ≡ slice_get failures 0 → copy ≡ digest
       → RefusesTreePage app page (ShellFailed copy)
-  first_failure app digest copy first same = tree.failed copy refl light
-      (ap (λ (ds : List (List ℕ)). slice_get ds 0) (sym same_failures) ∙ (sym first ∙ ap Some (sym same)))
+  first_failure failures are light app digest copy first same = tree.failed copy refl light
+      (ap (λ (ds : List (List ℕ)). slice_get ds 0) (sym (are ∙ forest_failures)) ∙ (sym first ∙ ap Some (sym same)))
 
-  pub prints_page : final_document (settled_nodes (forest_of page)) ≡ final_document (settled_tree page) → (doc : List DocNode) (out : List ℕ)
-      → None ≡ slice_get failures 0 → doc ≡ final_document (settled_nodes nodes) → out ≡ printed_nodes doc → PrintsPage page out
-  prints_page same doc out none d o = record {
-    shown = record { light = light; sound = sym same_failures ∙ no_first_of failures none };
+  pub shown_by : (failures : List (List ℕ)) → failures ≡ fails (settled_nodes nodes) → page_weight page ≤ most_weight
+      → None ≡ slice_get failures 0 → IsShown page
+  shown_by failures are light none = record {
+    light = light;
+    sound = sym (are ∙ forest_failures) ∙ no_first_of failures none;
+  }
+
+  pub forest_sound : IsShown page → fails (settled_nodes nodes) ≡ []
+  forest_sound shown = forest_failures ∙ shown.sound
+
+  pub prints_page : IsShown page → final_document (settled_nodes (forest_of page)) ≡ final_document (settled_tree page)
+      → (doc : List DocNode) (out : List ℕ) → doc ≡ final_document (settled_nodes nodes) → out ≡ printed_nodes doc
+      → PrintsPage page out
+  prints_page shown same doc out d o = record {
+    shown = shown;
     prints = o ∙ ap printed_nodes (d ∙ (ap (λ (n : List FNode). final_document (settled_nodes n)) is ∙ same));
   }

@@ -14,6 +14,7 @@ pub mod Sources
 pub mod Trees
 pub mod StillPages
 pub mod Rendering
+pub mod Sending
 pub mod Serving
 pub mod Calls
 pub mod Ends

@@ -121,7 +121,6 @@ program_row (program.FallbackNotPlain at) = row_at (codes "FallbackNotPlain") at
 program_row program.NoApp = bare (codes "NoApp")
 program_row (program.TooDeep depth) = counted_by (codes "TooDeep") (codes "depth") depth
 program_row (program.TooLarge limit) = counted_by (codes "TooLarge") (codes "limit") limit
-program_row program.Unbuilt = bare (codes "Unbuilt")
 
 abbrev pub script_row : ScriptFault → Row
 script_row script.NotJson = bare (codes "NotJson")
@@ -136,7 +135,6 @@ script_row (script.SettledTwice index first) = record {
   label = codes "SettledTwice";
   fields = record { name = codes "index"; value = number index } ∷ record { name = codes "first"; value = number first } ∷ [];
 }
-script_row script.Unbuilt = bare (codes "Unbuilt")
 
 abbrev pub page_row : PageFault → Row
 page_row (page.Html at) = row_at (codes "Html") at

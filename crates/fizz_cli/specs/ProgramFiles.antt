@@ -15,7 +15,7 @@ use Rattle.jsx_check.specs.declared.fault.CheckFault.{CheckFault}
 use Rattle.jsx_check.specs.declared.fault.CheckFault.TheVariants as check
 use Rattle.fizz_cli.specs.Steps.{IsFile, RefusesFile}
 use Rattle.fizz_cli.specs.declared.refusal.ProgramFault.{ProgramFault}
-use Rattle.fizz_cli.specs.declared.refusal.ProgramFault.TheVariants.{NotUtf8, LexFault, SyntaxFault, TooManyComponents, UnknownName, UnknownElement, UnknownAttribute, TwiceDefined, UsedBeforeDefined, FallbackNotPlain, NoApp, TooDeep, TooLarge, Unbuilt}
+use Rattle.fizz_cli.specs.declared.refusal.ProgramFault.TheVariants.{NotUtf8, LexFault, SyntaxFault, TooManyComponents, UnknownName, UnknownElement, UnknownAttribute, TwiceDefined, UsedBeforeDefined, FallbackNotPlain, NoApp, TooDeep, TooLarge}
 use Rattle.fizz_cli.specs.declared.refusal.FileFault.TheVariants.{Program}
 use Rattle.fizz_cli.specs.declared.refusal.Refusal.{Refusal}
 
@@ -51,8 +51,7 @@ pub record HasCheckFault (bytes : List ℕ) (fault : CheckFault) : Type 0 where
   pub spells : IsTextOf bytes file
   pub cause : IsFaultOf file fault
 
--- What the bytes are refused for. A program is too large only with a script, and `Unbuilt` is none of its faults:
--- `render` serves no other pages than still ones yet.
+-- What the bytes are refused for. A program is too large only with a script.
 abbrev pub RefusesProgramBytes : List ℕ → ProgramFault → Type 0
 RefusesProgramBytes bytes (NotUtf8 valid) = IsValidUpTo bytes valid
 RefusesProgramBytes bytes (LexFault at_ kind) = HasLexFault bytes at_ kind
@@ -67,7 +66,6 @@ RefusesProgramBytes bytes (FallbackNotPlain at_) = HasCheckFault bytes (check.Fa
 RefusesProgramBytes bytes NoApp = HasCheckFault bytes check.NoApp
 RefusesProgramBytes bytes (TooDeep depth) = HasCheckFault bytes (check.TooDeep depth)
 RefusesProgramBytes bytes (TooLarge limit) = ⊥
-RefusesProgramBytes bytes Unbuilt = ⊥
 
 -- The component file is accepted, and spells this program.
 pub record AcceptsProgram (file : Option (List ℕ)) (program : File) : Type 0 where

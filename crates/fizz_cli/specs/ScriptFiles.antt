@@ -7,12 +7,12 @@ use Rattle.fizz_cli.specs.Steps.{IsFile, RefusesFile}
 use Rattle.fizz_cli.specs.declared.refusal.FileFault.TheVariants.{Script}
 use Rattle.fizz_cli.specs.declared.refusal.Refusal.{Refusal}
 use Rattle.fizz_cli.specs.declared.refusal.ScriptFault.{ScriptFault}
-use Rattle.fizz_cli.specs.declared.refusal.ScriptFault.TheVariants.{NotJson, TooManyEvents, NotEvent, DigestTooLong, BadValue, SettledTwice, Unbuilt}
+use Rattle.fizz_cli.specs.declared.refusal.ScriptFault.TheVariants.{NotJson, TooManyEvents, NotEvent, DigestTooLong, BadValue, SettledTwice}
 
 abbrev pub most_script_bytes : ℕ
 most_script_bytes = 16777216
 
--- What the bytes are refused for. `Unbuilt` is none of their faults: `render` serves no script with a line yet.
+-- What the bytes are refused for.
 abbrev pub RefusesScriptBytes : List ℕ → ScriptFault → Type 0
 RefusesScriptBytes bytes NotJson = IsFaultOf bytes settle.NotJson
 RefusesScriptBytes bytes (TooManyEvents count) = IsFaultOf bytes (settle.TooManyEvents count)
@@ -20,7 +20,6 @@ RefusesScriptBytes bytes (NotEvent index) = IsFaultOf bytes (settle.NotEvent ind
 RefusesScriptBytes bytes (DigestTooLong index size) = IsFaultOf bytes (settle.DigestTooLong index size)
 RefusesScriptBytes bytes (BadValue index) = IsFaultOf bytes (settle.BadValue index)
 RefusesScriptBytes bytes (SettledTwice index first) = IsFaultOf bytes (settle.SettledTwice index first)
-RefusesScriptBytes bytes Unbuilt = ⊥
 
 -- The script is accepted, and has these lines.
 pub record AcceptsScript (file : Option (List ℕ)) (lines : List Event) : Type 0 where

@@ -4,27 +4,28 @@ use Rattle.std.specs.Prelude.{◌≡◌, ℕ, ◌⊎◌, List, [], take, Option}
 use Rattle.std.specs.Io.KnownBytes.{Keeps}
 use Rattle.fizz_outside.specs.FileContents.{Contents}
 use Rattle.fizz_cli.specs.PageFiles.{RefusesPage, ShowsFile}
-use Rattle.fizz_cli.specs.Rendering.{RefusesRender, RendersFiles}
+use Rattle.fizz_cli.specs.Rendering.{AcceptsPage, RendersFiles, RendersInPart}
 use Rattle.fizz_cli.specs.Trees.{RefusesTree, ShowsTree}
 use Rattle.fizz_cli.specs.declared.command.Command.{Command}
 use Rattle.fizz_cli.specs.declared.command.Command.TheVariants.{Render, Show, Tree}
 use Rattle.fizz_cli.specs.declared.refusal.Refusal.{Refusal}
+use Rattle.fizz_cli.specs.declared.steps.sources.Sources.{Sources}
 
 -- Why the command is refused. `faulted` stands for "the files counted a fault".
 abbrev pub Refuses : Contents → Command → Type 0 → Refusal → Type 0
-Refuses at (Render app script options workers) faulted refusal = RefusesRender at app script options.prefix faulted refusal
+Refuses at (Render app script options workers) faulted refusal = RefusesTree at app script options.prefix faulted refusal
 Refuses at (Show file prefix) faulted refusal = RefusesPage prefix faulted file (at file) refusal
 Refuses at (Tree app script prefix) faulted refusal = RefusesTree at app script prefix faulted refusal
 
--- The files are accepted: the page is rendered, the page file has a settled document, or the page has a final one.
+-- The files are accepted: the page is shown, the page file has a settled document, or the page has a final one.
 abbrev pub Accepts : Contents → Command → Type 0
-Accepts at (Render app script options workers) = (out : List ℕ) × RendersFiles at app script options.prefix out
+Accepts at (Render app script options workers) = (sources : Sources) × AcceptsPage at app script options.prefix sources
 Accepts at (Show file prefix) = (out : List ℕ) × ShowsFile prefix (at file) out
 Accepts at (Tree app script prefix) = (out : List ℕ) × ShowsTree at app script prefix out
 
 -- What was appended to the output, and what the files hold then, when the command is done.
 abbrev pub Completes : Contents → Command → Contents → List ℕ → Type 0
-Completes at (Render app script options workers) now written = RendersFiles at app script options.prefix written
+Completes at (Render app script options workers) now written = RendersFiles at app script options written
 Completes at (Show file prefix) now written = ShowsFile prefix (at file) written
 Completes at (Tree app script prefix) now written = ShowsTree at app script prefix written
 
@@ -34,7 +35,7 @@ IsPrefixOf outputs written = (written ≡ []) ⊎ ((whole : List ℕ) × (n : �
 
 -- What may have been appended to the output where the command was cut off.
 abbrev pub IsPart : Contents → Command → List ℕ → Type 0
-IsPart at (Render app script options workers) written = IsPrefixOf (RendersFiles at app script options.prefix) written
+IsPart at (Render app script options workers) written = (written ≡ []) ⊎ RendersInPart at app script options written
 IsPart at (Show file prefix) written = IsPrefixOf (ShowsFile prefix (at file)) written
 IsPart at (Tree app script prefix) written = IsPrefixOf (ShowsTree at app script prefix) written
 

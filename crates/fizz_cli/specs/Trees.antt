@@ -1,4 +1,4 @@
--- What `tree` does with a component file and a settling script.
+-- What `tree` does with a component file and a settling script, and which pages `tree` and `render` refuse.
 use Rattle.std.specs.Prelude.{◌≡◌, ℕ, ◌<◌, ◌≤◌, List, [], length, slice_get, Some}
 use Rattle.dom_forest.specs.Printing.{printed_nodes}
 use Rattle.jsx_value.specs.Positions.{Page}

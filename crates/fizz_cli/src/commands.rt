@@ -5,6 +5,7 @@ mod show;
 mod tree;
 
 ghost use Rattle.std.specs.Prelude.{◌≡◌};
+ghost use Rattle.fizz_cli.specs.Commands.{IsInline};
 ghost use Rattle.fizz_cli.specs.Ends.{Serves};
 ghost use Rattle.fizz_cli.specs.Reports.{files_change, sink_change};
 
@@ -20,6 +21,7 @@ pub(crate) fn serve<F: Files, S: Sink>(
     files: &mut F,
     out: &mut S,
 ) -> Result<(), Stop>
+    requires { IsInline command.now }
     ensures { Serves command.now
         (files_change (F.files files.old) (F.faults files.old) (F.files files.new) (F.faults files.new))
         (sink_change (S.contents out.old) (S.faults out.old) (S.contents out.new) (S.faults out.new)) result }

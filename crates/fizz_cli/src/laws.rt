@@ -9,11 +9,12 @@ ghost use Rattle.page_laws.specs.PrintedDocuments.{IsDocument};
 ghost use Rattle.settle_script.specs.declared.event.Event.{Event};
 ghost use Rattle.fizz_cli.specs.PageFiles.{RefusesPage, ShowsFile};
 ghost use Rattle.fizz_cli.specs.ProgramFiles.{AcceptsProgram, RefusesProgram};
-ghost use Rattle.fizz_cli.specs.Rendering.{RefusesRender, RendersFiles};
+ghost use Rattle.fizz_cli.specs.Rendering.{AcceptsPage};
 ghost use Rattle.fizz_cli.specs.ScriptFiles.{AcceptsScript, RefusesScript};
 ghost use Rattle.fizz_cli.specs.Trees.{RefusesTree, ShowsTree};
 ghost use Rattle.fizz_cli.specs.Serving.{Accepts, Refuses};
 ghost use Rattle.fizz_cli.specs.declared.refusal.Refusal.{Refusal as Cause};
+ghost use Rattle.fizz_cli.specs.declared.steps.sources.Sources.{Sources};
 
 use crate::command::Command;
 use document_machine::laws_of_documents;
@@ -67,10 +68,8 @@ fn laws_of_programs()
         ShowsTree at app script prefix out → RefusesTree at app script prefix ⊥ cause → ⊥ }
     ensures one_tree { (at : Contents) (app script prefix : List ℕ) (a b : Cause) →
         RefusesTree at app script prefix ⊥ a → RefusesTree at app script prefix ⊥ b → a ≡ b }
-    ensures rendered { (at : Contents) (app script prefix out : List ℕ) (cause : Cause) →
-        RendersFiles at app script prefix out → RefusesRender at app script prefix ⊥ cause → ⊥ }
-    ensures one_render { (at : Contents) (app script prefix : List ℕ) (a b : Cause) →
-        RefusesRender at app script prefix ⊥ a → RefusesRender at app script prefix ⊥ b → a ≡ b }
+    ensures accepted { (at : Contents) (app script prefix : List ℕ) (sources : Sources) (cause : Cause) →
+        AcceptsPage at app script prefix sources → RefusesTree at app script prefix ⊥ cause → ⊥ }
 {
     one_token_list();
     one_fault();

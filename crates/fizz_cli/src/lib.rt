@@ -18,6 +18,3 @@ pub use laws::{laws_of_refusals, laws_of_steps, one_document};
 pub use refusal::{FileFault, PageFault, ProgramFault, Refusal, ScriptFault};
 pub use top::{fizz, fizz_inline};
 pub use words::{WordsFault, read_words};
-
-#[cfg(test)]
-mod tests;

@@ -113,7 +113,6 @@ fn push_program_fault(
         ProgramFault::NoApp => push_row(alloc, note, "NoApp", &[]),
         ProgramFault::TooDeep { depth } => push_count(alloc, note, "TooDeep", "depth", *depth),
         ProgramFault::TooLarge { limit } => push_count(alloc, note, "TooLarge", "limit", *limit),
-        ProgramFault::Unbuilt => push_row(alloc, note, "Unbuilt", &[]),
     }
 }
 
@@ -201,7 +200,6 @@ fn push_script_fault(
             ];
             push_row(alloc, note, "SettledTwice", &fields)
         }
-        ScriptFault::Unbuilt => push_row(alloc, note, "Unbuilt", &[]),
     }
 }
 

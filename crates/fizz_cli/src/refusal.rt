@@ -63,8 +63,6 @@ pub enum ProgramFault {
     TooDeep { depth: u32 },
     /// With its script, the page weighs more than this.
     TooLarge { limit: u32 },
-    /// `render` doesn't serve the page yet: it holds more than elements and texts.
-    Unbuilt,
 }
 
 /// What the bytes of a settling script are refused for. `index` is the number of a line, from 0.
@@ -82,8 +80,6 @@ pub enum ScriptFault {
     BadValue { index: u32 },
     /// The line `first` has settled the name.
     SettledTwice { index: u32, first: u32 },
-    /// `render` doesn't serve a script with a line yet.
-    Unbuilt,
 }
 
 /// What the bytes of a page file are refused for. `at` is a place in them, as the document machine tells it.

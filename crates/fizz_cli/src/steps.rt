@@ -8,5 +8,5 @@ mod script_file;
 mod sources;
 
 pub(crate) use page_file::read_page;
-pub(crate) use page_forest::expand_page;
+pub(crate) use page_forest::shown_page;
 pub(crate) use sources::{Sources, read_sources};

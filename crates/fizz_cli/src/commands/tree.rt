@@ -10,12 +10,12 @@ ghost use Rattle.fizz_cli.specs.declared.command.Command.TheVariants.{Tree};
 
 use crate::refusal::Refusal;
 use crate::sending::write;
-use crate::steps::{Sources, expand_page, read_sources};
+use crate::steps::{Sources, read_sources, shown_page};
 use crate::stop::{OrMemory, Stop};
 use dom_forest::print_doc;
 use fizz_outside::{Files, Sink};
 use fizz_text::Text;
-use settled_tree::{final_of, laws_of_forests, shell_failures};
+use settled_tree::{final_of, laws_of_forests};
 use std::alloc::Global;
 
 /// Writes the document. Nothing is written of a page that is refused.
@@ -63,15 +63,8 @@ fn document_of(
         (RefusesTreePage app.now (settled_page sources.now prefix.now)) result }
 {
     laws_of_forests();
-    let forest = match expand_page(alloc, app, sources, prefix) {
-        Ok(forest) => forest,
-        Err(refused) => return Err(refused),
-    };
-    let failures = shell_failures(alloc, &forest)?;
-    match failures.as_slice().first() {
-        Some(digest) => Err(OrMemory::Fault(Refusal::ShellFailed {
-            digest: digest.copy(alloc)?,
-        })),
-        None => Ok(print_doc(alloc, &final_of(alloc, &forest)?)?),
+    match shown_page(alloc, app, sources, prefix) {
+        Ok(forest) => Ok(print_doc(alloc, &final_of(alloc, &forest)?)?),
+        Err(refused) => Err(refused),
     }
 }

@@ -1,9 +1,7 @@
 use Rattle.std.proofs.Common.{ℕ, List}
-use Rattle.fizz_cli.specs.Rendering.{RefusesRenderedPage}
 use Rattle.fizz_cli.specs.Trees.{RefusesTreePage, settled_page}
 use Rattle.fizz_cli.specs.declared.steps.sources.Sources.{Sources}
 use Rattle.fizz_cli.proofs.ProgramsLemmas.{ProgramLaws}
-use Rattle.fizz_cli.proofs.RenderingLemmas.{one_rendered_refusal, rendered_sound}
 use Rattle.fizz_cli.proofs.SourcesLemmas.{next_excludes, one_next}
 use Rattle.fizz_cli.proofs.TreesLemmas.{one_page_refusal, shown_sound}
 use Rattle.fizz_cli.proofs.laws.laws_of_programs.Goals as goal
@@ -26,10 +24,7 @@ returns c =
       one_tree = λ at app script prefix a b.
           one_next laws at app script (λ (o : Sources). RefusesTreePage app (settled_page o prefix)) a b
           (λ sources. one_page_refusal app (settled_page sources prefix) a b);
-      rendered = λ at app script prefix out refusal s.
-          next_excludes laws at app script (λ (o : Sources). RefusesRenderedPage app script o prefix) s.sources refusal s.accepted
-          (rendered_sound app script s.sources prefix out refusal s.renders);
-      one_render = λ at app script prefix a b.
-          one_next laws at app script (λ (o : Sources). RefusesRenderedPage app script o prefix) a b
-          (λ sources. one_rendered_refusal app script sources prefix a b);
+      accepted = λ at app script prefix sources refusal s.
+          next_excludes laws at app script (λ (o : Sources). RefusesTreePage app (settled_page o prefix)) sources refusal s.accepted
+          (shown_sound app (settled_page sources prefix) refusal s.shown);
     }

@@ -4,11 +4,11 @@ use Rattle.fizz_cli.proofs.laws.laws_of_refusals.Goals as goal
 
 pub returns-in-Render-clause-accepted : goal.returns-in-Render-clause-accepted
 returns-in-Render-clause-accepted c = rw c.in-Render.is (λ at refusal a r.
-    c.laws_of_programs.ensures.rendered at c.in-Render.app c.in-Render.script c.in-Render.options.prefix a.0 refusal a.1 r)
+    c.laws_of_programs.ensures.accepted at c.in-Render.app c.in-Render.script c.in-Render.options.prefix a.0 refusal a.1 r)
 
 pub returns-in-Render-clause-one : goal.returns-in-Render-clause-one
 returns-in-Render-clause-one c = rw c.in-Render.is (λ at a b p q.
-    c.laws_of_programs.ensures.one_render at c.in-Render.app c.in-Render.script c.in-Render.options.prefix a b p q)
+    c.laws_of_programs.ensures.one_tree at c.in-Render.app c.in-Render.script c.in-Render.options.prefix a b p q)
 
 pub returns-in-Show-clause-accepted : goal.returns-in-Show-clause-accepted
 returns-in-Show-clause-accepted c = rw c.in-Show.is (λ at refusal a r.

@@ -2,7 +2,7 @@ ghost use Rattle.std.specs.Prelude.{◌≤◌, None, length};
 
 use super::calls::run_fizz;
 use super::pages::PAGES;
-use crate::{Command, fizz_inline};
+use fizz_cli::{Command, fizz_inline};
 use fizz_outside::{FileBytes, Files, FilesRefused, MemoryFiles, MemorySink};
 use fizz_text::Text;
 use std::alloc::{AllocError, Global};

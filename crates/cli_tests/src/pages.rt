@@ -126,7 +126,7 @@ const FILES: [(&str, &str); 22] = [
 ];
 
 /// Files that are refused, each with what the note says of it.
-const REFUSED: [(&str, &str); 20] = [
+const REFUSED: [(&str, &str); 17] = [
     ("", "NoApp"),
     ("function App() { return text; }\n", "UnknownName at=24"),
     (
@@ -188,18 +188,6 @@ const REFUSED: [(&str, &str); 20] = [
     (
         "function App() { return <B/>; }\nfunction B() { return null; }\n",
         "UsedBeforeDefined at=25",
-    ),
-    (
-        "function App() { return <p><Suspense>x</Suspense></p>; }\n",
-        "Unbuilt",
-    ),
-    (
-        "function App() { const u = use(\"u\"); return <p>{u}</p>; }\n",
-        "Unbuilt",
-    ),
-    (
-        "function App() { if (true) throw \"s1\"; return null; }\n",
-        "Unbuilt",
     ),
 ];
 

@@ -1,4 +1,4 @@
-use crate::{Command, Options, fizz, fizz_inline};
+use fizz_cli::{Command, Options, fizz, fizz_inline};
 use fizz_outside::{MemoryFiles, MemorySink, OpenGate};
 use fizz_text::Text;
 use std::alloc::{AllocError, Global};
@@ -13,7 +13,7 @@ const PAGE: &[u8] = b"function App() { return <div className=\"a\">Hi</div>; }\n
 const HTML: &str = "<div class=\"a\">Hi</div>";
 
 /// Which calls fail: of the files, of the output and of the notes.
-type Fails = [&'static [u32]; 3];
+pub(super) type Fails = [&'static [u32]; 3];
 
 pub(super) const NEVER: Fails = [&[], &[], &[]];
 
@@ -86,15 +86,9 @@ const FILES: [(&[u8], &[u8], u8, &str, &str); 15] = [
         "s.json: BadValue index=0\n",
     ),
     (PAGE, TWICE, 4, "", "s.json: SettledTwice index=1 first=0\n"),
-    (PAGE, b"[{\"work\":0}]", 4, "", "s.json: Unbuilt\n"),
-    (PAGE, b"[{\"flush\":0}]", 4, "", "s.json: Unbuilt\n"),
-    (
-        PAGE,
-        b"[{\"reject\":\"u\",\"digest\":\"\"}]",
-        4,
-        "",
-        "s.json: Unbuilt\n",
-    ),
+    (PAGE, b"[{\"work\":0}]", 0, HTML, ""),
+    (PAGE, b"[{\"flush\":0}]", 0, HTML, ""),
+    (PAGE, b"[{\"reject\":\"u\",\"digest\":\"\"}]", 0, HTML, ""),
 ];
 
 const TWICE: &[u8] = b"[{\"resolve\":\"u\",\"value\":1},{\"reject\":\"u\",\"digest\":\"\"}]";

@@ -1,0 +1,13 @@
+//! Tests of the program: calls of its words over files, an output and notes in memory.
+#![tactic(auto)]
+
+#[cfg(test)]
+mod calls;
+#[cfg(test)]
+mod pages;
+#[cfg(test)]
+mod renders;
+#[cfg(test)]
+mod shows;
+#[cfg(test)]
+mod trees;

@@ -1,4 +1,0 @@
-mod calls;
-mod pages;
-mod shows;
-mod trees;

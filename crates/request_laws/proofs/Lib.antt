@@ -1,0 +1,2 @@
+mod WorksLemmas
+mod TranscriptsLemmas
