@@ -10,161 +10,170 @@ use std::test::Fail;
 use std::thread::Threads;
 
 /// `$RC`, `$RS` and `$RX`, as they are sent with their first call.
-const RC: &str =
+static RC: &str =
     "$RC=function(b,s){s=document.getElementById(s);s.parentNode.removeChild(s);b=document.getElementById(b);if(b){var o=b.previousSibling,p=o.parentNode,n=b,d=0,t;for(;n;n=t){t=n.nextSibling;if(n.nodeType===8){var x=n.data;if(x===\"/$\"){if(d===0)break;d--}else if(x===\"$\"||x===\"$?\"||x===\"$!\")d++}p.removeChild(n)}for(;s.firstChild;)p.insertBefore(s.firstChild,n);o.data=\"$\"}};";
 
-const RS: &str =
+static RS: &str =
     "$RS=function(s,p){s=document.getElementById(s);p=document.getElementById(p);for(s.parentNode.removeChild(s);s.firstChild;)p.parentNode.insertBefore(s.firstChild,p);p.parentNode.removeChild(p)};";
 
-const RX: &str =
+static RX: &str =
     "$RX=function(b,d){b=document.getElementById(b);if(b){b.previousSibling.data=\"$!\";if(d)b.dataset.dgst=d}};";
 
-/// A boundary that waits for `u`.
-const BODY: &str = "function Body() { const u = use(\"u\"); return <p>{u}</p>; }
-function App() { return <Suspense fallback={<i>wait</i>}><Body/></Suspense>; }
-";
+/// The component files.
+#[derive(Clone, Copy)]
+enum Page {
+    /// A boundary that waits for `u`.
+    Body,
+    /// A boundary that waits for `u`, and within it for `v`.
+    Nested,
+    /// Two boundaries beside each other.
+    Parts,
+    /// A part outside all boundaries that waits for `u`, and is nothing then.
+    Empty,
+    /// The same with a part that is a letter then.
+    Letter,
+    /// A page as users have it.
+    Blog,
+    /// A boundary whose content is there at once.
+    Plain,
+}
 
-/// A boundary that waits for `u`, and within it for `v`.
-const NESTED: &str = "function Inner() { const v = use(\"v\"); return <em>{v}</em>; }
+fn text_of(page: Page) -> &'static str {
+    match page {
+        Page::Body => "function Body() { const u = use(\"u\"); return <p>{u}</p>; }
+function App() { return <Suspense fallback={<i>wait</i>}><Body/></Suspense>; }
+",
+        Page::Nested => "function Inner() { const v = use(\"v\"); return <em>{v}</em>; }
 function Outer() { const u = use(\"u\"); return <section><b>{u}</b><Inner/></section>; }
 function App() { return <Suspense fallback={<i>wait</i>}><Outer/></Suspense>; }
-";
-
-/// Two boundaries beside each other.
-const PARTS: &str = "function Part({ n }) { const x = use(n); return <p>{x}</p>; }
+",
+        Page::Parts => "function Part({ n }) { const x = use(n); return <p>{x}</p>; }
 function App() { return <><Suspense fallback={<i>1</i>}><Part n=\"u\"/></Suspense><Suspense fallback={<i>2</i>}><Part n=\"v\"/></Suspense></>; }
-";
-
-/// A part outside all boundaries that waits for `u`, and is nothing or a letter then.
-const EMPTY: &str = "function Empty() { const u = use(\"u\"); return null; }
+",
+        Page::Empty => "function Empty() { const u = use(\"u\"); return null; }
 function App() { return <p>a<Empty/>b</p>; }
-";
-
-const LETTER: &str = "function Empty() { const u = use(\"u\"); return \"x\"; }
+",
+        Page::Letter => "function Empty() { const u = use(\"u\"); return \"x\"; }
 function App() { return <p>a<Empty/>b</p>; }
-";
-
-/// A page as users have it.
-const BLOG: &str =
-    "function Comment({ c }) { return <li data-id={c.id}><b>{c.author}</b>: {c.text}</li>; }
+",
+        Page::Blog =>
+            "function Comment({ c }) { return <li data-id={c.id}><b>{c.author}</b>: {c.text}</li>; }
 function Comments({ post }) { const list = use(\"comments:\" + post); return list.length === 0 ? <p>No comments yet.</p> : <ul>{list.map((c) => <Comment key={c.id} c={c}/>)}</ul>; }
 function Article() { const a = use(\"post:42\"); return <article><h1>{a.title}</h1><p>{a.body}</p><Suspense fallback={<p className=\"wait\">Loading comments</p>}><Comments post={42}/></Suspense></article>; }
 function App() { return <main id=\"page\"><header>Blog &amp; News</header><Suspense fallback={<p className=\"wait\">Loading</p>}><Article/></Suspense></main>; }
-";
+",
+        Page::Plain => "function App() { return <p><Suspense>x</Suspense></p>; }\n",
+    }
+}
 
 /// A component file, a script, what is sent, and what `show` prints of it. `W` and `F` before a comma or the end are lines
 /// that work and flush; `RC`, `RS` and `RX` before a call stand for the function's text.
-type Row = (&'static str, &'static str, &'static str, &'static str);
+type Row = (Page, &'static str, &'static str, &'static str);
 
-const ROWS: [Row; 18] = [
+static ROWS: [Row; 18] = [
     (
-        BODY,
+        Page::Body,
         "[{\"resolve\":\"u\",\"value\":\"x\"}]",
         "<!--$--><p>x</p><!--/$-->",
         "<p>x</p>",
     ),
     (
-        BODY,
+        Page::Body,
         "[W,F,{\"resolve\":\"u\",\"value\":\"x\"}]",
         "<!--$?--><template id=\"B:0\"></template><i>wait</i><!--/$--><div hidden id=\"S:0\"><p>x</p></div><script>RC$RC(\"B:0\",\"S:0\")</script>",
         "<p>x</p>",
     ),
     (
-        NESTED,
+        Page::Nested,
         "[W,F,{\"resolve\":\"u\",\"value\":\"1\"},W,F,{\"resolve\":\"v\",\"value\":\"2\"}]",
         "<!--$?--><template id=\"B:0\"></template><i>wait</i><!--/$--><div hidden id=\"S:0\"><section><b>1</b><template id=\"P:1\"></template></section></div><div hidden id=\"S:1\"><em>2</em></div><script>RS$RS(\"S:1\",\"P:1\")</script><script>RC$RC(\"B:0\",\"S:0\")</script>",
         "<section><b>1</b><em>2</em></section>",
     ),
     (
-        EMPTY,
+        Page::Empty,
         "[W,{\"resolve\":\"u\",\"value\":1}]",
         "<p>a<!-- -->b</p>",
         "<p>a<!-- -->b</p>",
     ),
     (
-        EMPTY,
+        Page::Empty,
         "[{\"resolve\":\"u\",\"value\":1}]",
         "<p>a<!-- -->b</p>",
         "<p>a<!-- -->b</p>",
     ),
     (
-        LETTER,
+        Page::Letter,
         "[W,{\"resolve\":\"u\",\"value\":1}]",
         "<p>a<!-- -->x<!-- -->b</p>",
         "<p>a<!-- -->x<!-- -->b</p>",
     ),
     (
-        LETTER,
+        Page::Letter,
         "[{\"resolve\":\"u\",\"value\":1}]",
         "<p>a<!-- -->x<!-- -->b</p>",
         "<p>a<!-- -->x<!-- -->b</p>",
     ),
     (
-        BODY,
+        Page::Body,
         "[W,F,{\"reject\":\"u\",\"digest\":\"</script>\\\"\"}]",
         "<!--$?--><template id=\"B:0\"></template><i>wait</i><!--/$--><script>RX$RX(\"B:0\",\"\\u003c/script>\\\"\")</script>",
         "<i>wait</i>",
     ),
     (
-        BODY,
+        Page::Body,
         "[{\"reject\":\"u\",\"digest\":\"e1\"}]",
         "<!--$!--><template data-dgst=\"e1\"></template><i>wait</i><!--/$-->",
         "<i>wait</i>",
     ),
     (
-        BODY,
+        Page::Body,
         "[{\"reject\":\"u\",\"digest\":\"\"}]",
         "<!--$!--><template></template><i>wait</i><!--/$-->",
         "<i>wait</i>",
     ),
     (
-        NESTED,
+        Page::Nested,
         "[W,F,{\"resolve\":\"u\",\"value\":\"1\"},W,F,{\"reject\":\"v\",\"digest\":\"e2\"}]",
         "<!--$?--><template id=\"B:0\"></template><i>wait</i><!--/$--><div hidden id=\"S:0\"><section><b>1</b><template id=\"P:1\"></template></section></div><script>RX$RX(\"B:0\",\"e2\")</script>",
         "<i>wait</i>",
     ),
     (
-        BODY,
+        Page::Body,
         "[W,F]",
         "<!--$?--><template id=\"B:0\"></template><i>wait</i><!--/$--><script>RX$RX(\"B:0\",\"unsettled\")</script>",
         "<i>wait</i>",
     ),
     (
-        BODY,
+        Page::Body,
         "[]",
         "<!--$!--><template data-dgst=\"unsettled\"></template><i>wait</i><!--/$-->",
         "<i>wait</i>",
     ),
     (
-        PARTS,
+        Page::Parts,
         "[W,F,{\"resolve\":\"u\",\"value\":\"x\"},{\"resolve\":\"v\",\"value\":\"y\"},W,F]",
         "<!--$?--><template id=\"B:0\"></template><i>1</i><!--/$--><!--$?--><template id=\"B:1\"></template><i>2</i><!--/$--><div hidden id=\"S:0\"><p>x</p></div><script>RC$RC(\"B:0\",\"S:0\")</script><div hidden id=\"S:1\"><p>y</p></div><script>$RC(\"B:1\",\"S:1\")</script>",
         "<p>x</p><p>y</p>",
     ),
     (
-        PARTS,
+        Page::Parts,
         "[W,F,{\"resolve\":\"u\",\"value\":\"x\"},{\"resolve\":\"v\",\"value\":\"y\"},W,{\"flush\":1}]",
         "<!--$?--><template id=\"B:0\"></template><i>1</i><!--/$--><!--$?--><template id=\"B:1\"></template><i>2</i><!--/$--><div hidden id=\"S:0\"><p>x</p></div><script>RC$RC(\"B:0\",\"S:0\")</script><div hidden id=\"S:1\"><p>y</p></div><script>$RC(\"B:1\",\"S:1\")</script>",
         "<p>x</p><p>y</p>",
     ),
     (
-        PARTS,
+        Page::Parts,
         "[W,F,{\"resolve\":\"v\",\"value\":\"y\"},W,F,{\"resolve\":\"u\",\"value\":\"x\"}]",
         "<!--$?--><template id=\"B:0\"></template><i>1</i><!--/$--><!--$?--><template id=\"B:1\"></template><i>2</i><!--/$--><div hidden id=\"S:1\"><p>y</p></div><script>RC$RC(\"B:1\",\"S:1\")</script><div hidden id=\"S:0\"><p>x</p></div><script>$RC(\"B:0\",\"S:0\")</script>",
         "<p>x</p><p>y</p>",
     ),
     (
-        BLOG,
+        Page::Blog,
         "[W,F,{\"resolve\":\"post:42\",\"value\":{\"title\":\"Fizz\",\"body\":\"It's out.\"}},W,F,{\"resolve\":\"comments:42\",\"value\":[{\"id\":1,\"author\":\"Ann\",\"text\":\"<3\"}]}]",
         "<main id=\"page\"><header>Blog &amp; News</header><!--$?--><template id=\"B:0\"></template><p class=\"wait\">Loading</p><!--/$--></main><div hidden id=\"S:0\"><article><h1>Fizz</h1><p>It&#x27;s out.</p><!--$?--><template id=\"B:1\"></template><p class=\"wait\">Loading comments</p><!--/$--></article></div><script>RC$RC(\"B:0\",\"S:0\")</script><div hidden id=\"S:1\"><ul><li data-id=\"1\"><b>Ann</b>: <!-- -->&lt;3</li></ul></div><script>$RC(\"B:1\",\"S:1\")</script>",
         "<main id=\"page\"><header>Blog &amp; News</header><article><h1>Fizz</h1><p>It&#x27;s out.</p><ul><li data-id=\"1\"><b>Ann</b>: <!-- -->&lt;3</li></ul></article></main>",
     ),
-    (
-        "function App() { return <p><Suspense>x</Suspense></p>; }\n",
-        "[]",
-        "<p><!--$-->x<!--/$--></p>",
-        "<p>x</p>",
-    ),
+    (Page::Plain, "[]", "<p><!--$-->x<!--/$--></p>", "<p>x</p>"),
 ];
 
 /// A script, with its lines that work and flush.
@@ -204,7 +213,7 @@ fn check_row<R: Abort + Threads + Wait + Sync>(
     let sent = sent_of(alloc, row.2)?;
     let entries = pair(
         alloc,
-        row.0.as_bytes().to_vec(alloc)?,
+        text_of(row.0).as_bytes().to_vec(alloc)?,
         script_of(alloc, row.1)?,
     )?;
     let (status, out, notes) = run_fizz(rt, alloc, RENDER, entries, &NEVER)?;
@@ -228,7 +237,7 @@ fn late_parts_are_sent(rt: HostRuntime) -> Result<(), Fail> {
 }
 
 /// Pages whose content outside all boundaries fails: the component file, the script, and the digest.
-const FAILED: [(&str, &str, &str); 4] = [
+static FAILED: [(&str, &str, &str); 4] = [
     (
         "function Bad() { const u = use(\"u\"); if (true) throw \"s1\"; return null; }\nfunction App() { return <div><Suspense fallback={null}><p>x</p></Suspense><Bad/></div>; }\n",
         "[W,F,{\"resolve\":\"u\",\"value\":1}]",
@@ -281,7 +290,7 @@ fn failing_outputs_end_the_run(rt: HostRuntime) -> Result<(), Fail> {
     for fails in FAILING.iter() {
         let entries = pair(
             alloc,
-            row.0.as_bytes().to_vec(alloc)?,
+            text_of(row.0).as_bytes().to_vec(alloc)?,
             script_of(alloc, row.1)?,
         )?;
         let (status, out, notes) = run_fizz(&rt, alloc, RENDER, entries, fails)?;

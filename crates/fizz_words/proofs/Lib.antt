@@ -1,0 +1,5 @@
+mod NumberLemmas
+mod RowsLemmas
+mod TakenLemmas
+mod PureLemmas
+mod MeantLemmas
