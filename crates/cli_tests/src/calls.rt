@@ -8,9 +8,9 @@ use std::thread::Threads;
 
 pub(super) const RENDER: &[&str] = &["render", "a.jsx", "s.json"];
 
-const PAGE: &[u8] = b"function App() { return <div className=\"a\">Hi</div>; }\n";
+pub(super) const PAGE: &[u8] = b"function App() { return <div className=\"a\">Hi</div>; }\n";
 
-const HTML: &str = "<div class=\"a\">Hi</div>";
+pub(super) const HTML: &str = "<div class=\"a\">Hi</div>";
 
 /// Which calls fail: of the files, of the output and of the notes.
 pub(super) type Fails = [&'static [u32]; 3];
@@ -18,13 +18,8 @@ pub(super) type Fails = [&'static [u32]; 3];
 pub(super) const NEVER: Fails = [&[], &[], &[]];
 
 /// Words, with the calls that fail; and the status, the output and the note over the files `a.jsx` and `s.json`.
-const WORDS: [(&[&str], Fails, u8, &str, &str); 15] = [
+const WORDS: [(&[&str], Fails, u8, &str, &str); 10] = [
     (RENDER, NEVER, 0, HTML, ""),
-    (&[], NEVER, 2, "", "usage\n"),
-    (&["render"], NEVER, 2, "", "usage\n"),
-    (&["render", "a.jsx"], NEVER, 2, "", "usage\n"),
-    (&["render", "a.jsx", "s.json", "x"], NEVER, 2, "", "usage\n"),
-    (&["show", "a.jsx", "s.json"], NEVER, 2, "", "usage\n"),
     (
         &["render", "b.jsx", "s.json"],
         NEVER,
@@ -105,11 +100,51 @@ pub(super) fn run_fizz<R: Threads + Wait + Sync>(
     for word in words {
         texts.push(Text::fixed(*word))?;
     }
+    run_texts(rt, alloc, &texts, entries, fails)
+}
+
+/// The same with words that are parted by `|`.
+pub(super) fn run_words<R: Threads + Wait + Sync>(
+    rt: &R,
+    alloc: Global,
+    words: &str,
+    entries: Vec<(Text, Vec<u8>)>,
+    fails: &Fails,
+) -> Result<(u8, MemorySink, MemorySink), AllocError> {
+    let texts = texts_of(alloc, words)?;
+    run_texts(rt, alloc, &texts, entries, fails)
+}
+
+fn texts_of(alloc: Global, words: &str) -> Result<Vec<Text>, AllocError> {
+    let mut texts = Vec::new(alloc);
+    if words.is_empty() {
+        return Ok(texts);
+    }
+    for word in words.split('|') {
+        texts.push(text_of(alloc, word)?)?;
+    }
+    Ok(texts)
+}
+
+fn text_of(alloc: Global, word: &str) -> Result<Text, AllocError> {
+    match Text::from_bytes(word.as_bytes().to_vec(alloc)?) {
+        Ok(text) => Ok(text),
+        Err(_) => Ok(Text::fixed("no text")),
+    }
+}
+
+fn run_texts<R: Threads + Wait + Sync>(
+    rt: &R,
+    alloc: Global,
+    texts: &[Text],
+    entries: Vec<(Text, Vec<u8>)>,
+    fails: &Fails,
+) -> Result<(u8, MemorySink, MemorySink), AllocError> {
     let mut files = MemoryFiles::new(alloc, entries, fails[0].to_vec(alloc)?);
     let mut out = MemorySink::new(alloc, fails[1].to_vec(alloc)?);
     let mut notes = MemorySink::new(alloc, fails[2].to_vec(alloc)?);
     let status = fizz(
-        rt, alloc, &texts, &mut files, &mut out, &mut notes, &OpenGate,
+        rt, alloc, texts, &mut files, &mut out, &mut notes, &OpenGate,
     );
     Ok((status, out, notes))
 }

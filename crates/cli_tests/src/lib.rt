@@ -4,6 +4,8 @@
 #[cfg(test)]
 mod calls;
 #[cfg(test)]
+mod options;
+#[cfg(test)]
 mod pages;
 #[cfg(test)]
 mod renders;
@@ -11,3 +13,5 @@ mod renders;
 mod shows;
 #[cfg(test)]
 mod trees;
+#[cfg(test)]
+mod words;

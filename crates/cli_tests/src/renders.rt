@@ -38,15 +38,21 @@ enum Page {
     Plain,
 }
 
-fn text_of(page: Page) -> &'static str {
-    match page {
-        Page::Body => "function Body() { const u = use(\"u\"); return <p>{u}</p>; }
+/// A boundary that waits for `u`.
+pub(super) static BODY: &str = "function Body() { const u = use(\"u\"); return <p>{u}</p>; }
 function App() { return <Suspense fallback={<i>wait</i>}><Body/></Suspense>; }
-",
-        Page::Nested => "function Inner() { const v = use(\"v\"); return <em>{v}</em>; }
+";
+
+/// A boundary that waits for `u`, and within it for `v`.
+pub(super) static NESTED: &str = "function Inner() { const v = use(\"v\"); return <em>{v}</em>; }
 function Outer() { const u = use(\"u\"); return <section><b>{u}</b><Inner/></section>; }
 function App() { return <Suspense fallback={<i>wait</i>}><Outer/></Suspense>; }
-",
+";
+
+fn text_of(page: Page) -> &'static str {
+    match page {
+        Page::Body => BODY,
+        Page::Nested => NESTED,
         Page::Parts => "function Part({ n }) { const x = use(n); return <p>{x}</p>; }
 function App() { return <><Suspense fallback={<i>1</i>}><Part n=\"u\"/></Suspense><Suspense fallback={<i>2</i>}><Part n=\"v\"/></Suspense></>; }
 ",
@@ -177,7 +183,7 @@ static ROWS: [Row; 18] = [
 ];
 
 /// A script, with its lines that work and flush.
-fn script_of(alloc: Global, row: &str) -> Result<Vec<u8>, AllocError> {
+pub(super) fn script_of(alloc: Global, row: &str) -> Result<Vec<u8>, AllocError> {
     let script = row.replace(alloc, "W,", "{\"work\":0},")?;
     let script = script.as_str().replace(alloc, "F,", "{\"flush\":0},")?;
     let script = script.as_str().replace(alloc, ",F]", ",{\"flush\":0}]")?;
@@ -185,7 +191,7 @@ fn script_of(alloc: Global, row: &str) -> Result<Vec<u8>, AllocError> {
 }
 
 /// What is sent, with the texts of the functions.
-fn sent_of(alloc: Global, row: &str) -> Result<String, AllocError> {
+pub(super) fn sent_of(alloc: Global, row: &str) -> Result<String, AllocError> {
     let first = format!(in alloc; "{RC}$RC(")?;
     let sent = row.replace(alloc, "RC$RC(", first.as_str())?;
     let first = format!(in alloc; "{RS}$RS(")?;

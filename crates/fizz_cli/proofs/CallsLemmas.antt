@@ -4,25 +4,22 @@ use Rattle.std.proofs.KnownBytes.{Appends-nil}
 use Rattle.std.proofs.lemmas.List.{take_all}
 use Rattle.std.specs.Io.KnownBytes.{Appends, Keeps}
 use Rattle.fizz_outside.specs.FileContents.{Contents}
-use Rattle.fizz_cli.specs.Calls.{IsCause, IsCutOff, IsDone, IsKept, IsRefusalStatus, KeepsOthers, RefusesWords, ServesCommand, ServesWords}
-use Rattle.fizz_cli.specs.Commands.{command_of}
+use Rattle.fizz_cli.specs.Calls.{AnswersWords, IsCause, IsClapText, IsCutOff, IsDone, IsKept, IsRefusalStatus, KeepsOthers, RefusesWords, ServesCommand, ServesWords}
 use Rattle.fizz_cli.specs.Ends.{EndsAs, SendsAll, Serves, WritesAll}
-use Rattle.fizz_cli.specs.Notes.{note_of, usage_note}
+use Rattle.fizz_cli.specs.Notes.{note_of, prefix_note}
 use Rattle.fizz_cli.specs.Refusals.{status_of}
 use Rattle.fizz_cli.specs.Reports.{AppendsPrefix, Change, FilesReport, HasFilesFault, HasSinkFault, SinkReport}
 use Rattle.fizz_cli.specs.Serving.{Accepts, Completes, IsPart, IsPrefixOf, Leaves, MayWrite, Refuses}
 use Rattle.fizz_cli.specs.Steps.{ReadsFiles, stop_of}
-use Rattle.fizz_cli.specs.Words.{HasWordsCause}
-use Rattle.fizz_cli.specs.declared.command.Command.{Command}
-use Rattle.fizz_cli.specs.declared.command.Command.TheVariants.{Render, Show, Tree}
+use Rattle.fizz_cli.specs.Words.{Reading, means, has_long_prefix, asks_for_text, is_wrong}
+use Rattle.fizz_words.specs.declared.command.Command.{Command}
+use Rattle.fizz_words.specs.declared.command.Command.TheVariants.{Render, Show, Tree, Gen}
 use Rattle.fizz_cli.specs.declared.refusal.Refusal.{Refusal}
 use Rattle.fizz_cli.specs.declared.refusal.Refusal.TheVariants.{CannotRead, File, ShellFailed, ShellPostponed, CannotWrite, StateTooLong}
 use Rattle.fizz_cli.specs.declared.stop.OrMemory.{OrMemory}
 use Rattle.fizz_cli.specs.declared.stop.OrMemory.TheVariants.{Fault, NoMemory}
 use Rattle.fizz_cli.specs.declared.stop.Stop.{Stop}
 use Rattle.fizz_cli.specs.declared.stop.Stop.TheVariants.{Refused, SinkFailed, OutOfMemory}
-use Rattle.fizz_cli.specs.declared.words.WordsFault.{WordsFault}
-use Rattle.fizz_cli.specs.declared.words.WordsFault.TheVariants.{Usage}
 use Rattle.fizz_cli.proofs.RefusalsLemmas.{refuses_at_rest}
 
 pub keeps_all : (held : Option (List ℕ)) → Keeps held held
@@ -53,16 +50,19 @@ pub accepts_output : (at : Contents) (command : Command) (now : Contents) (writt
 accepts_output at (Render app script options workers) now written is = (is.sources, is.accepted)
 accepts_output at (Show file prefix) now written is = (written, is)
 accepts_output at (Tree app script prefix) now written is = (written, is)
+accepts_output at (Gen seed size workers) now written is = (is.renders.sources, is.renders.accepted)
 
 nothing_written : (at : Contents) (command : Command) → IsPart at command []
 nothing_written at (Render app script options workers) = inl refl
 nothing_written at (Show file prefix) = inl refl
 nothing_written at (Tree app script prefix) = inl refl
+nothing_written at (Gen seed size workers) = inl refl
 
 leaves_all : (command : Command) (refusal : Refusal) (held : Option (List ℕ)) → Leaves command refusal held held
 leaves_all (Render app script options workers) refusal held = keeps_all held
 leaves_all (Show file prefix) refusal held = keeps_all held
 leaves_all (Tree app script prefix) refusal held = keeps_all held
+leaves_all (Gen seed size workers) refusal held = keeps_all held
 
 cut_at_once : (command : Command) (files : Change FilesReport) (out : Change SinkReport) → out.after ≡ out.before → IsCutOff command files out
 cut_at_once command files out same = λ at told.
@@ -262,15 +262,10 @@ call_told {T} command files out notes served refusal status laws is s sent =
 
 -- words
 
-pub words_refused : (words : List (List ℕ)) (e : WordsFault) (text : List ℕ) → e ≡ Usage text → HasWordsCause {A = Command} words (Err e) →
-    (command_of words ≡ None) × (text ≡ usage_note)
-words_refused words e text is cause = subst (λ (x : WordsFault). HasWordsCause {A = Command} words (Err x)) is cause
-
-pub words_unmeant : (meant : Option Command) (files : Change FilesReport) (out notes : Change SinkReport) (note : List ℕ) (status : ℕ) → meant ≡ None →
-    files.after ≡ files.before → out.after ≡ out.before → note ≡ usage_note → SendsAll 2 note notes status → ServesWords meant files out notes status
-words_unmeant meant files out notes note status none files_same out_same is sent =
-    subst (λ (m : Option Command). ServesWords m files out notes status) (sym none)
-    (by_sent (subst (λ (n : List ℕ). SendsAll 2 n notes status) is sent))
+-- words that are refused, however the note was sent
+pub words_refused : (is_note : List ℕ → Type 0) (files : Change FilesReport) (out notes : Change SinkReport) (note : List ℕ) (status : ℕ) →
+    is_note note → files.after ≡ files.before → out.after ≡ out.before → SendsAll 2 note notes status → RefusesWords is_note files out notes status
+words_refused is_note files out notes note status is files_same out_same sent = by_sent sent
   where
     kept : IsKept out
     kept = subst (λ (report : SinkReport). Keeps out.before.held report.held) (sym out_same) (keeps_all out.before.held)
@@ -278,48 +273,90 @@ words_unmeant meant files out notes note status none files_same out_same is sent
     files_kept : files.after.contents ≡ files.before.contents
     files_kept = ap (λ (report : FilesReport). report.contents) files_same
 
-    by_sent : SendsAll 2 usage_note notes status → RefusesWords files out notes status
+    by_sent : SendsAll 2 note notes status → RefusesWords is_note files out notes status
     by_sent (inl all) = record {
       files_kept = files_kept;
       output = kept;
-      usage = λ two. all.1;
+      usage = λ two. (note, is, all.1);
       failed = λ seven. absurd (omega (arith, seven, all.0));
-      cut = whole_prefix _ _ usage_note all.1;
+      cut = (note, is, whole_prefix _ _ note all.1);
       only = inl all.0;
-      unmeant = λ silent memory. all.0;
+      refused = λ silent memory. all.0;
     }
     by_sent (inr (inl failed)) = record {
       files_kept = files_kept;
       output = kept;
       usage = λ two. absurd (omega (arith, two, failed.0));
       failed = λ seven. failed.1;
-      cut = failed.2;
+      cut = (note, is, failed.2);
       only = inr (inl failed.0);
-      unmeant = λ silent memory. absurd (silent failed.1);
+      refused = λ silent memory. absurd (silent failed.1);
     }
     by_sent (inr (inr cut)) = record {
       files_kept = files_kept;
       output = kept;
       usage = λ two. absurd (omega (arith, two, cut.0));
       failed = λ seven. absurd (omega (arith, seven, cut.0));
-      cut = cut.1;
+      cut = (note, is, cut.1);
       only = inr (inr cut.0);
-      unmeant = λ silent memory. absurd (memory cut.0);
+      refused = λ silent memory. absurd (memory cut.0);
+    }
+
+-- words that ask for a text, however it was sent
+pub words_answered : (files : Change FilesReport) (out notes : Change SinkReport) (answer : List ℕ) (status : ℕ) →
+    files.after ≡ files.before → notes.after ≡ notes.before → SendsAll 0 answer out status → AnswersWords files out notes status
+words_answered files out notes answer status files_same notes_same sent = by_sent sent
+  where
+    kept : IsKept notes
+    kept = subst (λ (report : SinkReport). Keeps notes.before.held report.held) (sym notes_same) (keeps_all notes.before.held)
+
+    files_kept : files.after.contents ≡ files.before.contents
+    files_kept = ap (λ (report : FilesReport). report.contents) files_same
+
+    by_sent : SendsAll 0 answer out status → AnswersWords files out notes status
+    by_sent (inl all) = record {
+      files_kept = files_kept;
+      quiet = kept;
+      answered = λ zero. (answer, tt, all.1);
+      failed = λ seven. absurd (omega (arith, seven, all.0));
+      cut = (answer, tt, whole_prefix _ _ answer all.1);
+      only = inl all.0;
+      done = λ silent memory. all.0;
+    }
+    by_sent (inr (inl failed)) = record {
+      files_kept = files_kept;
+      quiet = kept;
+      answered = λ zero. absurd (omega (arith, zero, failed.0));
+      failed = λ seven. failed.1;
+      cut = (answer, tt, failed.2);
+      only = inr (inl failed.0);
+      done = λ silent memory. absurd (silent failed.1);
+    }
+    by_sent (inr (inr cut)) = record {
+      files_kept = files_kept;
+      quiet = kept;
+      answered = λ zero. absurd (omega (arith, zero, cut.0));
+      failed = λ seven. absurd (omega (arith, seven, cut.0));
+      cut = (answer, tt, cut.1);
+      only = inr (inr cut.0);
+      done = λ silent memory. absurd (memory cut.0);
     }
 
 -- words for which there was no memory
-pub words_without_memory : (meant : Option Command) (files : Change FilesReport) (out notes : Change SinkReport) →
-    files.after ≡ files.before → out.after ≡ out.before → notes.after ≡ notes.before → ServesWords meant files out notes 8
-words_without_memory None files out notes files_same out_same notes_same = record {
-  files_kept = ap (λ (report : FilesReport). report.contents) files_same;
-  output = subst (λ (report : SinkReport). Keeps out.before.held report.held) (sym out_same) (keeps_all out.before.held);
-  usage = λ two. absurd (omega (arith, two));
-  failed = λ seven. absurd (omega (arith, seven));
-  cut = (0, subst (λ (report : SinkReport). Appends notes.before.held report.held []) (sym notes_same) (Appends-nil notes.before.held));
-  only = inr (inr refl);
-  unmeant = λ silent memory. absurd (memory refl);
-}
-words_without_memory (Some command) files out notes files_same out_same notes_same =
+
+none_appended : (sink : Change SinkReport) (bytes : List ℕ) → sink.after ≡ sink.before → AppendsPrefix sink.before.held sink.after.held bytes
+none_appended sink bytes same =
+    (0, subst (λ (report : SinkReport). Appends sink.before.held report.held []) (sym same) (Appends-nil sink.before.held))
+
+pub words_without_memory : (reading : Reading) (files : Change FilesReport) (out notes : Change SinkReport) →
+    files.after ≡ files.before → out.after ≡ out.before → notes.after ≡ notes.before → ServesWords reading files out notes 8
+words_without_memory (means command) files out notes files_same out_same notes_same =
     call_without_memory command files out notes
     (keeps_others (MayWrite command) files.before.contents files.after.contents (ap (λ (report : FilesReport). report.contents) files_same))
     (cut_at_once command files out out_same) notes_same
+words_without_memory has_long_prefix files out notes files_same out_same notes_same =
+    words_refused (λ note. note ≡ prefix_note) files out notes prefix_note 8 refl files_same out_same (inr (inr (refl, none_appended notes prefix_note notes_same)))
+words_without_memory asks_for_text files out notes files_same out_same notes_same =
+    words_answered files out notes [] 8 files_same notes_same (inr (inr (refl, none_appended out [] out_same)))
+words_without_memory is_wrong files out notes files_same out_same notes_same =
+    words_refused IsClapText files out notes [] 8 tt files_same out_same (inr (inr (refl, none_appended notes [] notes_same)))

@@ -7,5 +7,7 @@ mod ProgramsLemmas
 mod SourcesLemmas
 mod StillLemmas
 mod RenderingLemmas
+mod GeneratingLemmas
+mod WordsLemmas
 mod TreesLemmas
 mod SendingLemmas

@@ -1,5 +1,5 @@
 -- Facts about refusals: what is accepted is not refused, and files are refused for one thing at most.
-use Rattle.std.proofs.Common.{◌≡◌, ℕ, ◌<◌, ◌≤◌, ◌⊎◌, List, [], length, Option, Result, Ok, Err, refl, sym, ◌∙◌, ap, subst, inl, inr, arith}
+use Rattle.std.proofs.Common.{◌≡◌, ℕ, ◌<◌, ◌≤◌, ◌⊎◌, List, length, Option, Result, Ok, Err, refl, sym, ◌∙◌, ap, subst, inl, inr, arith}
 use Rattle.std.proofs.lemmas.Bool.{cases_lt}
 use Rattle.std.proofs.lemmas.List.{take_all}
 use Rattle.std.specs.Str.{IsUtf8, IsValidUpTo}
@@ -21,8 +21,8 @@ use Rattle.serde_json.specs.Read.{read}
 use Rattle.fizz_cli.specs.ScriptFiles.{AcceptsScript, RefusesScript, RefusesScriptBytes, most_script_bytes}
 use Rattle.fizz_cli.specs.Serving.{Refuses}
 use Rattle.fizz_cli.specs.Sources.{RefusesSources}
-use Rattle.fizz_cli.specs.declared.command.Command.{Command}
-use Rattle.fizz_cli.specs.declared.command.Command.TheVariants.{Render, Show, Tree}
+use Rattle.fizz_words.specs.declared.command.Command.{Command}
+use Rattle.fizz_words.specs.declared.command.Command.TheVariants.{Render, Show, Tree, Gen}
 use Rattle.fizz_cli.specs.declared.refusal.FileFault.TheVariants.{Program, Script, Page}
 use Rattle.fizz_cli.specs.declared.refusal.PageFault.{PageFault}
 use Rattle.fizz_cli.specs.declared.refusal.PageFault.TheVariants.{Html, UnknownFunction, NoSuchId, NotBoundary, StillPending}
@@ -203,3 +203,4 @@ refuses_at_rest at (Tree app script_name prefix) faulted refusal quiet (inl r) =
 refuses_at_rest at (Tree app script_name prefix) faulted refusal quiet (inr r) = inr r
 refuses_at_rest at (Show file prefix) faulted refusal quiet r =
     refuses_quiet Page (RefusesPageBytes prefix) faulted most_page_bytes file (at file) refusal quiet r
+refuses_at_rest at (Gen seed size workers) faulted refusal quiet r = r

@@ -1,5 +1,5 @@
 -- `render`: a page that stands still is printed, and any other may come late.
-use Rattle.std.proofs.Common.{◌≡◌, ℕ, Bool, true, false, List, [], refl, sym, ◌∙◌, ap, subst}
+use Rattle.std.proofs.Common.{◌≡◌, ℕ, Bool, true, false, List, sym, ◌∙◌, ap, subst}
 use Rattle.dom_forest.specs.declared.document.DocNode.{DocNode}
 use Rattle.dom_forest.specs.Printing.{printed_nodes}
 use Rattle.document_machine.specs.Documents.{most_open}

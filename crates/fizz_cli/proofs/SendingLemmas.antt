@@ -1,21 +1,20 @@
 -- A page that is ready is sent.
-use Rattle.std.proofs.Common.{◌≡◌, ◌⊎◌, ℕ, List, [], take, Option, Some, None, Result, Ok, Err, Vec, Global, refl, sym, ap, subst, inl, inr}
+use Rattle.std.proofs.Common.{◌≡◌, ◌⊎◌, ℕ, List, [], take, Option, Some, None, Result, Ok, Err, Vec, Global, refl, sym, subst, inl, inr}
 use Rattle.fizz_outside.specs.FileContents.{Contents}
-use Rattle.std.specs.Io.KnownBytes.{Appends}
 use Rattle.fizz_cli.specs.Calls.{IsCutOff}
 use Rattle.fizz_cli.specs.Ends.{EndsAs, Serves, WritesAll}
 use Rattle.fizz_piece.specs.declared.plan.Plan.{Plan}
 use Rattle.jsx_value.specs.Positions.{Page}
 use Rattle.fizz_cli.specs.Rendering.{IsPlanOf, PrintsStillPage, SendsPage, SendsPart}
 use Rattle.fizz_cli.specs.Rendering as render
-use Rattle.fizz_cli.specs.Reports.{AppendsPrefix, Change, FilesReport, SinkReport}
+use Rattle.fizz_cli.specs.Reports.{Change, FilesReport, SinkReport}
 use Rattle.fizz_cli.specs.Sending.{AreStillBytes, IsReady, IsReadyOf, IsSettledAs, RunsInto, SendsBytes, SendsReady, StreamsInto}
 use Rattle.fizz_cli.specs.Sources.{AcceptsSources}
 use Rattle.fizz_cli.specs.Serving.{MayWrite, Refuses}
 use Rattle.fizz_cli.specs.Steps.{ReadsFiles}
 use Rattle.fizz_cli.specs.Trees.{settled_page}
-use Rattle.fizz_cli.specs.declared.command.Command.TheVariants.{Render}
-use Rattle.fizz_cli.specs.declared.command.Options.{Options}
+use Rattle.fizz_words.specs.declared.command.Command.TheVariants.{Render}
+use Rattle.fizz_words.specs.declared.command.Options.{Options}
 use Rattle.fizz_cli.specs.declared.commands.render.Ready.{Ready}
 use Rattle.fizz_cli.specs.declared.steps.sources.Sources.{Sources}
 use Rattle.fizz_cli.specs.declared.stop.Stop.{Stop}

@@ -1,10 +1,9 @@
 -- Facts about the steps that read files.
-use Rattle.std.proofs.Common.{◌≡◌, ℕ, ◌⊎◌, List, length, Option, Some, None, Result, Ok, Err, Vec, Global, refl, sym, ◌∙◌, ap, subst, inl, inr, arith}
+use Rattle.std.proofs.Common.{◌≡◌, ℕ, List, length, Option, Some, None, Result, Ok, Err, Vec, Global, refl, sym, ◌∙◌, ap, subst, inl, inr, arith}
 use Rattle.fizz_outside.specs.FileContents.{Contents}
 use Rattle.fizz_cli.specs.Reports.{Change, FilesReport}
-use Rattle.fizz_cli.specs.Steps.{AcceptsOrRefuses, FirstOrNext, HasBadBytes, IsFile, IsLongFile, IsNotRead, IsOrMemory, ReadsFiles, RefusesFile}
+use Rattle.fizz_cli.specs.Steps.{AcceptsOrRefuses, FirstOrNext, IsFile, IsLongFile, IsNotRead, IsOrMemory, ReadsFiles, RefusesFile}
 use Rattle.fizz_cli.specs.declared.refusal.FileFault.{FileFault}
-use Rattle.fizz_cli.specs.declared.refusal.FileFault.TheVariants.{TooLong}
 use Rattle.fizz_cli.specs.declared.refusal.Refusal.{Refusal}
 use Rattle.fizz_cli.specs.declared.refusal.Refusal.TheVariants.{CannotRead, File}
 use Rattle.fizz_cli.specs.declared.stop.OrMemory.{OrMemory}

@@ -12,8 +12,7 @@ use Rattle.html_names.specs.Elements.{element_rows, void_flag}
 use Rattle.html_names.specs.Names.{begins_with, is_letter, is_name_byte, is_plain_name}
 use Rattle.html_read.specs.Names.{IsAttributeName, IsTagName}
 use Rattle.html_read.specs.Tokens.{AreAttributes, HasValue}
-use Rattle.dom_forest.specs.Forest.{Forest, empty, tree}
-use Rattle.dom_forest.specs.Printing.{is_void}
+use Rattle.dom_forest.specs.Forest.{Forest, tree}
 use Rattle.dom_forest.specs.declared.document.DocNode.{DocNode}
 use Rattle.dom_forest.specs.declared.document.DocNode.TheFolds.{fold-roll-DocNode}
 use Rattle.dom_forest.specs.declared.document.DocNode.TheOpen.{Element as element_layer, Text as text_layer}
@@ -22,7 +21,7 @@ use Rattle.dom_forest.specs.declared.node.NewNode.TheVariants.{Element}
 use Rattle.document_machine.specs.Documents.{most_open}
 use Rattle.document_machine.specs.Plain.{IsPlain}
 use Rattle.document_machine.specs.Printing.{MayHold, MayPrint}
-use Rattle.document_machine.specs.Views.{has_name, is_container, is_left_out, is_segment_id}
+use Rattle.document_machine.specs.Views.{is_left_out, is_segment_id}
 use Rattle.page_laws.specs.PrintedDocuments.{IsPrintable, Standing, siblings_forest, standing_of, standing_step}
 use Rattle.jsx_value.specs.Spots.{Label, nothing, text, element, array, boundary, wait, fail, Spots, none, spot, fails, own_fails, settled, settled_label}
 use Rattle.settled_tree.specs.Final.{final_document, final_nodes}

@@ -1,12 +1,13 @@
 -- What a call of the program does to files, output and notes, by the status that it ends with.
-use Rattle.std.specs.Prelude.{◌≡◌, ◌≢◌, ℕ, ◌⊎◌, ◌≤◌, List, Option, Some, None, Result, Ok, Err}
+use Rattle.std.specs.Prelude.{◌≡◌, ◌≢◌, ℕ, ◌⊎◌, List, Option, Some, None}
 use Rattle.std.specs.Io.KnownBytes.{Appends, Keeps}
 use Rattle.fizz_outside.specs.FileContents.{Contents}
-use Rattle.fizz_cli.specs.Notes.{note_of, usage_note}
+use Rattle.fizz_cli.specs.Notes.{note_of, prefix_note}
 use Rattle.fizz_cli.specs.Refusals.{status_of}
 use Rattle.fizz_cli.specs.Reports.{AppendsPrefix, Change, FilesReport, HasFilesFault, HasSinkFault, SinkReport}
 use Rattle.fizz_cli.specs.Serving.{Accepts, Completes, IsPart, Leaves, MayWrite, Refuses}
-use Rattle.fizz_cli.specs.declared.command.Command.{Command}
+use Rattle.fizz_cli.specs.Words.{Reading, means, has_long_prefix, asks_for_text, is_wrong}
+use Rattle.fizz_words.specs.declared.command.Command.{Command}
 use Rattle.fizz_cli.specs.declared.refusal.Refusal.{Refusal}
 use Rattle.fizz_cli.specs.declared.refusal.Refusal.TheVariants.{CannotRead}
 
@@ -49,6 +50,18 @@ pub record TellsInPart (command : Command) (files : Change FilesReport) (out not
 abbrev pub IsKept : Change SinkReport → Type 0
 IsKept sink = Keeps sink.before.held sink.after.held
 
+-- A text of clap's own, of which nothing is said here.
+abbrev pub IsClapText : List ℕ → Type 0
+IsClapText text = Unit {0}
+
+-- Such a text was appended to a sink.
+abbrev pub AppendsSome : (List ℕ → Type 0) → Change SinkReport → Type 0
+AppendsSome is sink = (text : List ℕ) × is text × Appends sink.before.held sink.after.held text
+
+-- A part of such a text was.
+abbrev pub AppendsPart : (List ℕ → Type 0) → Change SinkReport → Type 0
+AppendsPart is sink = (text : List ℕ) × is text × AppendsPrefix sink.before.held sink.after.held text
+
 abbrev pub IsRefusalStatus : ℕ → Type 0
 IsRefusalStatus status = (refusal : Refusal) × (status ≡ status_of refusal)
 
@@ -72,17 +85,31 @@ pub record ServesCommand (command : Command) (files : Change FilesReport) (out n
   pub called_for : (at : Contents) → files.before.contents ≡ Some at → (HasFilesFault files → ⊥) → (HasSinkFault notes → ⊥) →
       status ≢ 8 → (refusal : Refusal) → Refuses at command ⊥ refusal → status ≡ status_of refusal
 
--- What a call does whose words mean no command: it ends with 2 and the usage note, or it is cut off.
-pub record RefusesWords (files : Change FilesReport) (out notes : Change SinkReport) (status : ℕ) : Type 0 where
+-- What a call does whose words are refused with such a note: it ends with 2 and a note, or it is cut off.
+pub record RefusesWords (is_note : List ℕ → Type 0) (files : Change FilesReport) (out notes : Change SinkReport)
+    (status : ℕ) : Type 0 where
   pub files_kept : files.after.contents ≡ files.before.contents
   pub output : IsKept out
-  pub usage : status ≡ 2 → Appends notes.before.held notes.after.held usage_note
+  pub usage : status ≡ 2 → AppendsSome is_note notes
   pub failed : status ≡ 7 → HasSinkFault notes
-  pub cut : AppendsPrefix notes.before.held notes.after.held usage_note
+  pub cut : AppendsPart is_note notes
   pub only : (status ≡ 2) ⊎ ((status ≡ 7) ⊎ (status ≡ 8))
-  pub unmeant : (HasSinkFault notes → ⊥) → status ≢ 8 → status ≡ 2
+  pub refused : (HasSinkFault notes → ⊥) → status ≢ 8 → status ≡ 2
 
--- What a call of words does, by the command that they mean.
-abbrev pub ServesWords : Option Command → Change FilesReport → Change SinkReport → Change SinkReport → ℕ → Type 0
-ServesWords None files out notes status = RefusesWords files out notes status
-ServesWords (Some command) files out notes status = ServesCommand command files out notes status
+-- What a call does whose words ask for help or for the version: it ends with 0 and a text on the output, or it is cut
+-- off.
+pub record AnswersWords (files : Change FilesReport) (out notes : Change SinkReport) (status : ℕ) : Type 0 where
+  pub files_kept : files.after.contents ≡ files.before.contents
+  pub quiet : IsKept notes
+  pub answered : status ≡ 0 → AppendsSome IsClapText out
+  pub failed : status ≡ 7 → HasSinkFault out
+  pub cut : AppendsPart IsClapText out
+  pub only : (status ≡ 0) ⊎ ((status ≡ 7) ⊎ (status ≡ 8))
+  pub done : (HasSinkFault out → ⊥) → status ≢ 8 → status ≡ 0
+
+-- What a call of words does, by what they come to.
+abbrev pub ServesWords : Reading → Change FilesReport → Change SinkReport → Change SinkReport → ℕ → Type 0
+ServesWords (means command) files out notes status = ServesCommand command files out notes status
+ServesWords has_long_prefix files out notes status = RefusesWords (λ note. note ≡ prefix_note) files out notes status
+ServesWords asks_for_text files out notes status = AnswersWords files out notes status
+ServesWords is_wrong files out notes status = RefusesWords IsClapText files out notes status

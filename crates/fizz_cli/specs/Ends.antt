@@ -1,11 +1,11 @@
 -- How the serving of a command ends, before a refusal is told. Private functions cite it.
-use Rattle.std.specs.Prelude.{◌≡◌, ℕ, ◌⊎◌, ◌≤◌, List, Result, Ok, Err, Option, Some}
+use Rattle.std.specs.Prelude.{◌≡◌, ℕ, ◌⊎◌, List, Result, Ok, Err, Some}
 use Rattle.std.specs.Io.KnownBytes.{Appends}
 use Rattle.fizz_outside.specs.FileContents.{Contents}
-use Rattle.fizz_cli.specs.Calls.{IsCause, IsCutOff, IsDone, IsKept, KeepsOthers}
+use Rattle.fizz_cli.specs.Calls.{IsCause, IsCutOff, IsDone, KeepsOthers}
 use Rattle.fizz_cli.specs.Reports.{AppendsPrefix, Change, FilesReport, HasSinkFault, SinkReport}
 use Rattle.fizz_cli.specs.Serving.{Accepts, Leaves, MayWrite}
-use Rattle.fizz_cli.specs.declared.command.Command.{Command}
+use Rattle.fizz_words.specs.declared.command.Command.{Command}
 use Rattle.fizz_cli.specs.declared.stop.Stop.{Stop}
 use Rattle.fizz_cli.specs.declared.stop.Stop.TheVariants.{Refused, SinkFailed, OutOfMemory}
 

@@ -1,5 +1,3 @@
-pub mod Commands
-pub mod Words
 pub mod Refusals
 pub mod Notes
 pub mod Reports
@@ -15,6 +13,9 @@ pub mod Trees
 pub mod StillPages
 pub mod Rendering
 pub mod Sending
+pub mod Generating
+pub mod Summaries
 pub mod Serving
+pub mod Words
 pub mod Calls
 pub mod Ends

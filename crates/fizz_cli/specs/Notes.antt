@@ -164,6 +164,6 @@ note_of (ShellPostponed resource) = line_of (codes "shell postponed: ") (words r
 note_of (CannotWrite name) = line_of (codes "cannot write ") (words name)
 note_of (StateTooLong length) = line_of (codes "state too long: ") (number length)
 
--- where the words are no command
-abbrev pub usage_note : List ℕ
-usage_note = codes "usage\n"
+-- where the words give a prefix that is too long
+abbrev pub prefix_note : List ℕ
+prefix_note = codes "prefix too long\n"

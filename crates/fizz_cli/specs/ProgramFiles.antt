@@ -1,5 +1,5 @@
 -- The step that reads a component file as a program.
-use Rattle.std.specs.Prelude.{◌≡◌, ℕ, List, Option}
+use Rattle.std.specs.Prelude.{ℕ, List, Option}
 use Rattle.std.specs.Str.{IsUtf8, IsValidUpTo}
 use Rattle.jsx_lex.specs.FaultTable.{IsFaultAt}
 use Rattle.jsx_lex.specs.TokenLists.{AreTokens}

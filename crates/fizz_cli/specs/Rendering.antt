@@ -15,7 +15,7 @@ use Rattle.fizz_outside.specs.FileContents.{Contents}
 use Rattle.fizz_cli.specs.Sources.{AcceptsSources}
 use Rattle.fizz_cli.specs.StillPages.{IsStill, is_still}
 use Rattle.fizz_cli.specs.Trees.{IsShown, settled_page}
-use Rattle.fizz_cli.specs.declared.command.Options.{Options}
+use Rattle.fizz_words.specs.declared.command.Options.{Options}
 use Rattle.fizz_cli.specs.declared.steps.sources.Sources.{Sources}
 
 -- The page stands still. The bytes are its document, as it is printed; and they are a whole page, which leaves that

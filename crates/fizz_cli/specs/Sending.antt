@@ -12,7 +12,7 @@ use Rattle.settle_script.specs.declared.event.Event.{Event}
 use Rattle.fizz_cli.specs.Rendering.{AcceptsPage, MayComeLate, PrintsStillPage, SendsPage, SendsPart, StreamsPage, StreamsPart}
 use Rattle.fizz_cli.specs.Reports.{Change, HasSinkFault, SinkReport}
 use Rattle.fizz_cli.specs.Trees.{IsExpanded, IsShown, settled_page}
-use Rattle.fizz_cli.specs.declared.command.Options.{Options}
+use Rattle.fizz_words.specs.declared.command.Options.{Options}
 use Rattle.fizz_cli.specs.declared.commands.render.Ready.{Ready}
 use Rattle.fizz_cli.specs.declared.steps.sources.Sources.{Sources}
 use Rattle.fizz_cli.specs.declared.stop.Stop.{Stop}

@@ -1,18 +1,24 @@
--- When words are refused.
-use Rattle.std.specs.Prelude.{◌≡◌, ℕ, List, Option, Some, None, Result, Ok, Err}
-use Rattle.fizz_cli.specs.Commands.{command_of}
-use Rattle.fizz_cli.specs.declared.command.Command.{Command}
-use Rattle.fizz_cli.specs.Notes.{usage_note}
-use Rattle.fizz_cli.specs.declared.words.WordsFault.{WordsFault}
-use Rattle.fizz_cli.specs.declared.words.WordsFault.TheVariants.{Usage, OutOfMemory}
+-- What words come to, by clap's reading of them.
+use Rattle.std.specs.Prelude.{ℕ, Bool, true, false, List, length, nat_lt, Option, Some, None, if◌then◌else◌}
+use Rattle.fizz_words.specs.Commands.{prefix_of}
+use Rattle.fizz_words.specs.Meaning.{asks, command_of}
+use Rattle.fizz_words.specs.declared.command.Command.{Command}
 
--- Words that may mean a command are read as it, refused where they mean none, or there is no memory.
-abbrev pub IsMeant : Option Command → Result Command WordsFault → Type 0
-IsMeant meant (Ok command) = meant ≡ Some command
-IsMeant meant (Err (Usage text)) = (meant ≡ None) × (text ≡ usage_note)
-IsMeant meant (Err OutOfMemory) = Unit {0}
+-- They mean a command; they mean one but for its prefix, which is too long; they ask for help or for the version; or
+-- they are wrong.
+pub data Reading : Type 0 where
+  means : Command → Reading
+  has_long_prefix : Reading
+  asks_for_text : Reading
+  is_wrong : Reading
 
-abbrev pub HasWordsCause : {A : Type 0} → List (List ℕ) → Result A WordsFault → Type 0
-HasWordsCause words (Ok command) = Unit {0}
-HasWordsCause words (Err (Usage text)) = (command_of words ≡ None) × (text ≡ usage_note)
-HasWordsCause words (Err OutOfMemory) = Unit {0}
+abbrev pub with_prefix : Command → Reading
+with_prefix command = if nat_lt 64 (length (prefix_of command)) then has_long_prefix else means command
+
+abbrev pub reading_from : Option Command → Bool → Reading
+reading_from (Some command) asked = with_prefix command
+reading_from None true = asks_for_text
+reading_from None false = is_wrong
+
+abbrev pub reading_of : List (List ℕ) → Reading
+reading_of words = reading_from (command_of words) (asks words)

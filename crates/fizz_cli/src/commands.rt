@@ -1,17 +1,18 @@
 //! The commands, each served by a function that is handed the output.
 
+mod generate;
 mod render;
 mod show;
 mod tree;
 
 ghost use Rattle.std.specs.Prelude.{◌≡◌};
-ghost use Rattle.fizz_cli.specs.Commands.{IsInline};
+ghost use Rattle.fizz_words.specs.Commands.{IsInline};
 ghost use Rattle.fizz_cli.specs.Ends.{Serves};
 ghost use Rattle.fizz_cli.specs.Reports.{files_change, sink_change};
 
-use crate::command::Command;
 use crate::stop::Stop;
 use fizz_outside::{Files, Sink};
+use fizz_words::Command;
 use std::alloc::Global;
 
 /// Serves a command: writes to the output and to files what it is to write, unless it is refused.
@@ -39,5 +40,6 @@ pub(crate) fn serve<F: Files, S: Sink>(
             script,
             prefix,
         } => tree::serve(alloc, app, script, prefix, files, out),
+        Command::Gen { seed, size, .. } => generate::serve(alloc, *seed, *size, out),
     }
 }

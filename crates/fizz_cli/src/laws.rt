@@ -16,8 +16,8 @@ ghost use Rattle.fizz_cli.specs.Serving.{Accepts, Refuses};
 ghost use Rattle.fizz_cli.specs.declared.refusal.Refusal.{Refusal as Cause};
 ghost use Rattle.fizz_cli.specs.declared.steps.sources.Sources.{Sources};
 
-use crate::command::Command;
 use document_machine::laws_of_documents;
+use fizz_words::Command;
 use jsx_check::one_check_fault;
 use jsx_lex::{one_fault, one_token_list, tokens_or_fault};
 use jsx_syntax::{one_file, one_syntax_fault};
@@ -59,6 +59,7 @@ pub fn laws_of_refusals(command: &Command)
         Command::Render { .. } => laws_of_programs(),
         Command::Show { prefix, .. } => laws_of_pages(prefix.as_str()),
         Command::Tree { .. } => laws_of_programs(),
+        Command::Gen { .. } => laws_of_programs(),
     }
 }
 

@@ -7,6 +7,6 @@ mod read_file;
 mod script_file;
 mod sources;
 
-pub(crate) use page_file::read_page;
+pub(crate) use page_file::{read_page, run_page, settled_doc};
 pub(crate) use page_forest::shown_page;
 pub(crate) use sources::{Sources, read_sources};

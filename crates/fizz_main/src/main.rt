@@ -2,7 +2,7 @@
 #![tactic(auto)]
 
 use fizz_cli::fizz;
-use fizz_outside::{DiskFiles, OpenGate, StdSink};
+use fizz_outside::{DiskFiles, OpenGate, Sink, SinkRefused, StdSink};
 use fizz_text::Text;
 use std::alloc::Global;
 use std::io::ErrorKind;
@@ -13,6 +13,9 @@ use std::{env, io};
 /// Where a word isn't UTF-8.
 const USAGE: u8 = 2;
 
+/// Where standard error failed.
+const SINK_FAILED: u8 = 7;
+
 /// Where there is no memory for the words.
 const NO_MEMORY: u8 = 8;
 
@@ -21,7 +24,7 @@ fn main(rt: HostRuntime) -> ExitCode {
     let words = match read_words(&rt, alloc) {
         Ok(words) => words,
         Err(e) if e.kind() == ErrorKind::OutOfMemory => return ExitCode::from(NO_MEMORY),
-        Err(_) => return ExitCode::from(USAGE),
+        Err(_) => return ExitCode::from(refuse_words(&mut StdSink::new(rt.stderr()))),
     };
     let mut files = DiskFiles::new(alloc, &rt);
     let mut out = StdSink::new(rt.stdout());
@@ -30,6 +33,15 @@ fn main(rt: HostRuntime) -> ExitCode {
         &rt, alloc, &words, &mut files, &mut out, &mut notes, &OpenGate,
     );
     ExitCode::from(status)
+}
+
+/// Says that a word isn't UTF-8.
+fn refuse_words<N: Sink>(notes: &mut N) -> u8 {
+    match notes.write_all(b"error: a word is not UTF-8\n") {
+        Ok(()) => USAGE,
+        Err(SinkRefused::Failed) => SINK_FAILED,
+        Err(SinkRefused::OutOfMemory) => NO_MEMORY,
+    }
 }
 
 /// The words after the program's name.

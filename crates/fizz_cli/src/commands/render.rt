@@ -2,16 +2,15 @@
 
 ghost use Rattle.std.specs.Prelude.{◌≡◌, ◌≤◌, ℕ, length, IfOk};
 ghost use Rattle.jsx_syntax.specs.Rules.{IsApp};
-ghost use Rattle.fizz_cli.specs.Commands.{IsInline};
+ghost use Rattle.fizz_words.specs.Commands.{IsInline};
 ghost use Rattle.fizz_cli.specs.Ends.{Serves};
 ghost use Rattle.fizz_cli.specs.Rendering.{plan_options};
 ghost use Rattle.fizz_cli.specs.Reports.{files_change, sink_change};
 ghost use Rattle.fizz_cli.specs.Sending.{IsReady, IsReadyOf, IsSendable, IsSettledAs, RunsInto, SendsReady, StreamsInto};
 ghost use Rattle.fizz_cli.specs.Steps.{AcceptsOrRefuses, ReadsFiles};
 ghost use Rattle.fizz_cli.specs.Trees.{IsShown, RefusesTree, RefusesTreePage, settled_page};
-ghost use Rattle.fizz_cli.specs.declared.command.Command.TheVariants.{Render};
+ghost use Rattle.fizz_words.specs.declared.command.Command.TheVariants.{Render};
 
-use crate::command::Options;
 use crate::refusal::Refusal;
 use crate::sending::write;
 use crate::steps::{Sources, read_sources, shown_page};
@@ -21,6 +20,7 @@ use dom_forest::print_doc;
 use fizz_outside::{Files, Sink};
 use fizz_piece::{Options as PlanOptions, Plan};
 use fizz_text::{OutOfMemory, Text};
+use fizz_words::Options;
 use html_names::laws_of_names;
 use inline_run::{RunFault, run_inline};
 use page_laws::laws_of_printed_documents;

@@ -3,7 +3,7 @@
 ghost use Rattle.std.specs.Prelude.{◌≡◌};
 ghost use Rattle.fizz_cli.specs.Ends.{Serves};
 ghost use Rattle.fizz_cli.specs.Reports.{files_change, sink_change};
-ghost use Rattle.fizz_cli.specs.declared.command.Command.TheVariants.{Show};
+ghost use Rattle.fizz_words.specs.declared.command.Command.TheVariants.{Show};
 
 use crate::sending::write;
 use crate::steps::read_page;

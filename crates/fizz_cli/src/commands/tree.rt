@@ -6,7 +6,7 @@ ghost use Rattle.fizz_cli.specs.Ends.{Serves};
 ghost use Rattle.fizz_cli.specs.Reports.{files_change, sink_change};
 ghost use Rattle.fizz_cli.specs.Steps.{AcceptsOrRefuses, ReadsFiles};
 ghost use Rattle.fizz_cli.specs.Trees.{PrintsPage, RefusesTree, RefusesTreePage, ShowsTree, settled_page};
-ghost use Rattle.fizz_cli.specs.declared.command.Command.TheVariants.{Tree};
+ghost use Rattle.fizz_words.specs.declared.command.Command.TheVariants.{Tree};
 
 use crate::refusal::Refusal;
 use crate::sending::write;

@@ -50,13 +50,17 @@ pub(crate) fn read_page<F: Files>(
 fn show(alloc: Global, prefix: &Text, bytes: &[u8]) -> Result<Vec<u8>, OrMemory<PageFault>>
     ensures { AcceptsOrRefuses (λ out. ShowsDocument prefix.now bytes.now out.items) (RefusesPageBytes prefix.now bytes.now) result }
 {
-    let view = run(alloc, prefix, bytes)?;
-    let doc = settle(alloc, &view)?;
+    let view = run_page(alloc, prefix, bytes)?;
+    let doc = settled_doc(alloc, &view)?;
     Ok(print_doc(alloc, &doc)?)
 }
 
 /// Runs a page to its end.
-fn run(alloc: Global, prefix: &Text, bytes: &[u8]) -> Result<View, OrMemory<PageFault>>
+pub(crate) fn run_page(
+    alloc: Global,
+    prefix: &Text,
+    bytes: &[u8],
+) -> Result<View, OrMemory<PageFault>>
     ensures { AcceptsOrRefuses (SeesWhole (nothing_run prefix.now) bytes.now) (RefusesPageBytes prefix.now bytes.now) result }
 {
     let mut machine = Machine::new(alloc, prefix.copy(alloc)?);
@@ -86,7 +90,7 @@ fn feed_all(machine: &mut Machine, bytes: &[u8]) -> Result<(), MachineFault>
 }
 
 /// The settled document of a view.
-fn settle(alloc: Global, view: &View) -> Result<Doc, OrMemory<PageFault>>
+pub(crate) fn settled_doc(alloc: Global, view: &View) -> Result<Doc, OrMemory<PageFault>>
     ensures { AcceptsOrRefuses (λ doc. settled_of (view_of_parts view.now.parts) ≡ Some (nodes_in doc.parts))
         (IsPendingView (view_of_parts view.now.parts)) result }
 {

@@ -1,4 +1,3 @@
-use Rattle.std.proofs.Common.{ℕ, List}
 use Rattle.fizz_cli.specs.Trees.{RefusesTreePage, settled_page}
 use Rattle.fizz_cli.specs.declared.steps.sources.Sources.{Sources}
 use Rattle.fizz_cli.proofs.ProgramsLemmas.{ProgramLaws}

@@ -1,4 +1,5 @@
-use Rattle.std.proofs.Common.{ℕ, List, sym, subst}
+use Rattle.std.proofs.Common.{ℕ, List, [], sym, subst}
+use Rattle.fizz_cli.specs.Generating.{app_name, generated_files, script_name}
 use Rattle.fizz_cli.specs.PageFiles.{RefusesPage, ShowsFile}
 use Rattle.fizz_cli.proofs.laws.laws_of_refusals.Goals as goal
 
@@ -29,3 +30,11 @@ returns-in-Tree-clause-accepted c = rw c.in-Tree.is (λ at refusal a r.
 pub returns-in-Tree-clause-one : goal.returns-in-Tree-clause-one
 returns-in-Tree-clause-one c = rw c.in-Tree.is (λ at a b p q.
     c.laws_of_programs-in-Tree.ensures.one_tree at c.in-Tree.app c.in-Tree.script c.in-Tree.prefix a b p q)
+
+pub returns-in-Gen-clause-accepted : goal.returns-in-Gen-clause-accepted
+returns-in-Gen-clause-accepted c = rw c.in-Gen.is (λ at refusal a r.
+    c.laws_of_programs-in-Gen.ensures.accepted (generated_files c.in-Gen.seed c.in-Gen.size) app_name script_name [] a.0 refusal a.1 r)
+
+pub returns-in-Gen-clause-one : goal.returns-in-Gen-clause-one
+returns-in-Gen-clause-one c = rw c.in-Gen.is (λ at a b p q.
+    c.laws_of_programs-in-Gen.ensures.one_tree (generated_files c.in-Gen.seed c.in-Gen.size) app_name script_name [] a b p q)

@@ -1,5 +1,5 @@
 use Rattle.std.proofs.Common.{Err, ◌∙◌, ap, refl}
-use Rattle.fizz_cli.proofs.CallsLemmas.{CommandLaws, call_done, call_failed, call_stopped, call_told}
+use Rattle.fizz_cli.proofs.CallsLemmas.{CommandLaws, call_done, call_told}
 use Rattle.fizz_cli.proofs.top.fizz_inline.Goals as goal
 
 pub returns-in-Ok : goal.returns-in-Ok

@@ -1,5 +1,3 @@
-use Rattle.std.proofs.Common.{subst, sym}
-use Rattle.fizz_cli.specs.Sending.{AreStillBytes}
 use Rattle.fizz_cli.specs.Trees.{settled_page}
 use Rattle.fizz_cli.proofs.SendingLemmas.{late_of, still_of, streams_late, writes_still}
 use Rattle.fizz_cli.proofs.commands.render.send.Goals as goal

@@ -1,7 +1,7 @@
 use Rattle.std.proofs.Common.{refl}
 use Rattle.std.proofs.lemmas.Result.{err_from_is_err_and}
 use Rattle.fizz_cli.specs.Sending.{IsReadyOf}
-use Rattle.fizz_cli.specs.declared.command.Command.TheVariants.{Render}
+use Rattle.fizz_words.specs.declared.command.Command.TheVariants.{Render}
 use Rattle.fizz_cli.specs.declared.commands.render.Ready.{Ready}
 use Rattle.fizz_cli.proofs.CallsLemmas.{stops_as}
 use Rattle.fizz_cli.proofs.SendingLemmas.{serves_ready}

@@ -1,7 +1,7 @@
-use Rattle.std.proofs.Common.{ℕ, List, Vec, Global, refl}
+use Rattle.std.proofs.Common.{ℕ, Vec, Global, refl}
 use Rattle.std.proofs.lemmas.Result.{err_from_is_err_and}
 use Rattle.fizz_cli.specs.PageFiles.{ShowsFile}
-use Rattle.fizz_cli.specs.declared.command.Command.TheVariants.{Show}
+use Rattle.fizz_words.specs.declared.command.Command.TheVariants.{Show}
 use Rattle.fizz_cli.proofs.CallsLemmas.{stops_as, writes}
 use Rattle.fizz_cli.proofs.commands.show.serve.Goals as goal
 

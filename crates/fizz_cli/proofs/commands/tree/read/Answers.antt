@@ -1,4 +1,4 @@
-use Rattle.std.proofs.Common.{ℕ, List, Vec, Global}
+use Rattle.std.proofs.Common.{ℕ, Vec, Global}
 use Rattle.fizz_cli.specs.Sources.{AcceptsSources, RefusesSources}
 use Rattle.fizz_cli.specs.Trees.{PrintsPage, RefusesTreePage, ShowsTree, settled_page}
 use Rattle.fizz_cli.specs.declared.steps.sources.Sources.{Sources}
