@@ -1,0 +1,4 @@
+pub mod Points
+pub mod Calls
+pub mod TasksLemmas
+pub mod ClaimsLemmas

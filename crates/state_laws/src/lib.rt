@@ -1,0 +1,7 @@
+//! Laws of the tables of a page that is being rendered: what each call keeps of its tasks, claims, segments and
+//! boundaries. Each function does nothing: it has its laws as its contract.
+#![tactic(auto)]
+
+mod claims;
+
+pub use claims::laws_of_claim_numbers;
