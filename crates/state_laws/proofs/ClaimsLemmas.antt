@@ -134,7 +134,7 @@ woken_kept name (Runnable job) claim kept = kept
 woken_kept name (Claimed n) claim kept = kept
 woken_kept name (Waiting resource job) claim kept = woken_kept_if (bytes_eq name resource) resource job claim kept
 
-settled_fit : (name : List ℕ) (core : Core) → ClaimsFit core → ClaimsFit (with_settled name core)
+pub settled_fit : (name : List ℕ) (core : Core) → ClaimsFit core → ClaimsFit (with_settled name core)
 settled_fit name core fit = record {
   tasks = same_fit core (with_settled name core) (settled_same name core) fit.tasks;
   numbered = numbered_fewer core.tasks.states (map (woken name) core.tasks.states) core.tasks.claims
@@ -192,19 +192,19 @@ claimed_claims old new work fit out =
       kept = kept_changed work.task (Claimed old.tasks.claims) (Some (kept_of old out.job)) old next change refl fit;
     })
 
-work_left : (core : Core) (work : Work) → keeps core work ≡ true → IsLeft core work.task
+pub work_left : (core : Core) (work : Work) → keeps core work ≡ true → IsLeft core work.task
 work_left core work kept =
     let found : (n : ℕ) × (claim_of (state_at core.tasks.states work.task) ≡ Some n) = claimed_under core work kept in
     claimed_left (state_at core.tasks.states work.task) found.0 found.1
 
-given_back_fit : (work : Work) (claim : Claim) (core : Core) → keeps core work ≡ true → ClaimsFit core
+pub given_back_fit : (work : Work) (claim : Claim) (core : Core) → keeps core work ≡ true → ClaimsFit core
     → ClaimsFit (given_back_to work (Some claim) core)
 given_back_fit work claim core kept fit =
     unclaimed_fit work.task (Runnable (job_again work claim)) None core (given_back_to work (Some claim) core)
     (record { owners = refl; states = refl; claims = refl; bounds = refl; left = work_left core work kept })
     refl refl refl fit
 
-put_off_fit : (work : Work) (resource : List ℕ) (claim : Claim) (core : Core) → keeps core work ≡ true → ClaimsFit core
+pub put_off_fit : (work : Work) (resource : List ℕ) (claim : Claim) (core : Core) → keeps core work ≡ true → ClaimsFit core
     → ClaimsFit (put_off_to work resource (Some claim) core)
 put_off_fit work resource claim core kept fit =
     unclaimed_fit work.task (Waiting resource (job_again work claim)) None core (put_off_to work resource (Some claim) core)
@@ -226,7 +226,7 @@ gone_kept : (goes : Bool) (state : State Job) (claim : Option Claim) → IsKeptO
 gone_kept true state claim kept = tt
 gone_kept false state claim kept = kept
 
-dropped_claims : (boundary : ℕ) (core : Core) → ClaimsFit core → ClaimsFit (with_dropped boundary core)
+pub dropped_claims : (boundary : ℕ) (core : Core) → ClaimsFit core → ClaimsFit (with_dropped boundary core)
 dropped_claims boundary core fit =
     let owners : List (Option ℕ) = core.tasks.owners in
     let states : List (State Job) = core.tasks.states in
@@ -240,7 +240,7 @@ dropped_claims boundary core fit =
           (gone_kept (is_owned (Some boundary) owners task) (state_at states task) (claim_at core.claims task) (fit.kept task));
     }
 
-marked_claims : (boundary : ℕ) (digest : List ℕ) (core : Core) → ClaimsFit core → ClaimsFit (marked_failed boundary digest core)
+pub marked_claims : (boundary : ℕ) (digest : List ℕ) (core : Core) → ClaimsFit core → ClaimsFit (marked_failed boundary digest core)
 marked_claims boundary digest core fit = record {
   tasks = marked_fit boundary digest core fit.tasks;
   numbered = fit.numbered;
@@ -264,7 +264,7 @@ gone_kept_all (Runnable job) claim gone = absurd (gone refl)
 gone_kept_all (Claimed n) claim gone = absurd (gone refl)
 gone_kept_all (Waiting resource job) claim gone = absurd (gone refl)
 
-shell_claims : (digest : List ℕ) (core : Core) → ClaimsFit core → ClaimsFit (with_shell_failed digest core)
+pub shell_claims : (digest : List ℕ) (core : Core) → ClaimsFit core → ClaimsFit (with_shell_failed digest core)
 shell_claims digest core fit =
     let states : List (State Job) = (with_shell_failed digest core).tasks.states in
     record {
@@ -288,7 +288,7 @@ new_kept : (waits : Option (List ℕ)) (job : Job) → IsKeptOf (new_state waits
 new_kept None job = refl
 new_kept (Some resource) job = refl
 
-added_claims : (owner : Option ℕ) (state : State Job) (old new : Core) → AddsTask owner state old new
+pub added_claims : (owner : Option ℕ) (state : State Job) (old new : Core) → AddsTask owner state old new
     → claim_of state ≡ None → IsKeptOf state None → CanMake owner old → ClaimsFit old → ClaimsFit new
 added_claims owner state old new adds unclaimed own can fit = record {
   tasks = added_fit owner state old new adds can fit.tasks;
@@ -309,7 +309,7 @@ added_claims owner state old new adds unclaimed own can fit = record {
         (λ same own_is. absurd (nothing_claims n (sym unclaimed ∙ own_is))) (λ apart is_so. is_so)
         (subst (λ (l : List (State Job)). claim_of (state_at l task) ≡ Some n) adds.states is)
 
-made_claims : (owner : Option ℕ) (parent : ℕ) (made : Made) (core : Core) → CanMake owner core → ClaimsFit core
+pub made_claims : (owner : Option ℕ) (parent : ℕ) (made : Made) (core : Core) → CanMake owner core → ClaimsFit core
     → ClaimsFit (with_made owner parent made core)
 made_claims owner parent (m.Hole place lead position waits) core can fit =
     added_claims owner (new_state waits (twin_job (length core.segments.parts) position))

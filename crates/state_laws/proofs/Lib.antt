@@ -2,3 +2,5 @@ pub mod Points
 pub mod Calls
 pub mod TasksLemmas
 pub mod ClaimsLemmas
+pub mod FlushLemmas
+pub mod ServedLemmas

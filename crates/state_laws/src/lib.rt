@@ -3,5 +3,7 @@
 #![tactic(auto)]
 
 mod claims;
+mod segments;
 
 pub use claims::laws_of_claim_numbers;
+pub use segments::laws_of_served_segments;
