@@ -1,8 +1,12 @@
 -- How calls are gone through, for any fact of a state.
-use Rattle.std.proofs.Common.{◌≡◌, ℕ, zero, suc, ◌+◌, Bool, true, false, ◌&&◌, is_some, List, [], ◌∷◌, length, Option, Some, None, refl, sym, ap, subst, ◌∙◌}
+use Rattle.std.proofs.Common.{◌≡◌, ℕ, zero, suc, ◌+◌, ◌<◌, ◌≤◌, Bool, true, false, ◌&&◌, is_some, List, [], ◌∷◌, length, Option, Some, None, inl, inr, refl, sym, ap, subst, ◌∙◌}
+use Rattle.std.proofs.lemmas.Bool.{cases_lt}
+use Rattle.std.proofs.lemmas.Option.{slice_get_past}
 use Rattle.settle_script.specs.declared.value.Entry.{Entry}
 use Rattle.settle_script.specs.declared.outcome.Outcome.{Outcome}
 use Rattle.settle_script.specs.Settlements.{known}
+use Rattle.fizz_boundary.specs.Bounds.{bound_at, tasks_left}
+use Rattle.fizz_boundary.specs.declared.boundary.Bound.{Bound}
 use Rattle.fizz_piece.specs.declared.plan.Plan.{Plan}
 use Rattle.fizz_piece.specs.declared.work.Work.{Work}
 use Rattle.fizz_task.specs.Board.{claim_of, state_at}
@@ -45,6 +49,16 @@ kept_under core work kept =
     is_the_kept work (claim_at core.claims work.task)
     (right (is_claim work.claim (claim_of (state_at core.tasks.states work.task))) _ kept)
 
+nothing_left : (found : Option Bound) → found ≡ None → is_some (tasks_left found) ≡ true → ⊥
+nothing_left None is some = not_false some
+nothing_left (Some bound) is some = cc
+
+working_made : (bounds : List Bound) (boundary : ℕ) → is_working bounds boundary ≡ true → boundary < length bounds
+working_made bounds boundary is = elim (cases_lt boundary (length bounds)) [
+  | inl within ↦ within
+  | inr past ↦ absurd (nothing_left (bound_at bounds boundary) (slice_get_past bounds boundary past) (left _ _ is))
+]
+
 module _ (Fact : Core → Type 0) where
   -- what is dropped, boundary by boundary
   pub all_dropped_keeps : ((boundary : ℕ) (core : Core) → Fact core → Fact (with_dropped boundary core))
@@ -67,25 +81,30 @@ module _ (Fact : Core → Type 0) where
   owner_failed_keeps shell fails None digest old new holds is = subst Fact (sym is) (shell digest old holds)
   owner_failed_keeps shell fails (Some boundary) digest old new holds is = fails boundary digest old new holds is
 
-  failed_if_keeps : (fails : Bool) (boundary failed : ℕ) (old new : Core) (Then : Core → ℕ → Type 0)
-      → ((boundary : ℕ) (digest : List ℕ) (old new : Core) → Fact old → FailsBoundary boundary digest old new → Fact new)
+  -- a boundary that is at work was made; where it fails the fact is kept
+  abbrev EachKeeps : Type 0
+  EachKeeps = (boundary : ℕ) (digest : List ℕ) (old new : Core) → boundary < length old.boundaries.bounds → Fact old
+      → FailsBoundary boundary digest old new → Fact new
+
+  failed_if_keeps : (fails : Bool) (boundary failed : ℕ) (old new : Core) (Then : Core → ℕ → Type 0) → EachKeeps
+      → is_working old.boundaries.bounds boundary ≡ fails
       → ((between : Core) (others : ℕ) → Fact between → Then between others → Fact new)
       → Fact old → FailsIf fails boundary old Then failed → Fact new
-  failed_if_keeps true boundary failed old new Then each on holds fails =
-      on fails.between fails.others (each boundary unsettled old fails.between holds fails.fails) fails.goes_on
-  failed_if_keeps false boundary failed old new Then each on holds fails = on old failed holds fails
+  failed_if_keeps true boundary failed old new Then each is on holds fails =
+      on fails.between fails.others
+      (each boundary unsettled old fails.between (working_made old.boundaries.bounds boundary is) holds fails.fails)
+      fails.goes_on
+  failed_if_keeps false boundary failed old new Then each is on holds fails = on old failed holds fails
 
-  each_failed_keeps : ((boundary : ℕ) (digest : List ℕ) (old new : Core) → Fact old
-      → FailsBoundary boundary digest old new → Fact new)
-      → (count from failed : ℕ) (old new : Core) → Fact old → FailEach count from old new failed → Fact new
+  each_failed_keeps : EachKeeps → (count from failed : ℕ) (old new : Core) → Fact old
+      → FailEach count from old new failed → Fact new
   each_failed_keeps each zero from failed old new holds fail = subst Fact fail.0 holds
   each_failed_keeps each (suc count) from failed old new holds fail =
       failed_if_keeps (is_working old.boundaries.bounds from) from failed old new
-      (λ between others. FailEach count (from + 1) between new others) each
+      (λ between others. FailEach count (from + 1) between new others) each refl
       (λ between others stand later. each_failed_keeps each count (from + 1) others between new stand later) holds fail
 
-  pub closed_keeps : ((digest : List ℕ) (core : Core) → Fact core → Fact (with_shell_failed digest core))
-      → ((boundary : ℕ) (digest : List ℕ) (old new : Core) → Fact old → FailsBoundary boundary digest old new → Fact new)
+  pub closed_keeps : ((digest : List ℕ) (core : Core) → Fact core → Fact (with_shell_failed digest core)) → EachKeeps
       → (tasks failed : ℕ) (old new : Core) → Fact old → Closes tasks old new failed → Fact new
   closed_keeps shell each zero failed old new holds closes =
       each_failed_keeps each (length old.boundaries.bounds) 0 failed old new holds closes

@@ -414,7 +414,8 @@ reclaimed_claims_fit core fit = record {
 -- The end, and flushes.
 
 pub closed_claims : (tasks failed : ℕ) (old new : Core) → ClaimsFit old → Closes tasks old new failed → ClaimsFit new
-closed_claims = closed_keeps ClaimsFit shell_claims failed_claims
+closed_claims =
+    closed_keeps ClaimsFit shell_claims (λ boundary digest old new made. failed_claims boundary digest old new)
 
 appended_claims : (plan : Plan) (budget : ℕ) (old new : Core) → ClaimsFit old → AppendsFlush plan budget old new → ClaimsFit new
 appended_claims plan budget old new fit flush =

@@ -4,3 +4,4 @@ pub mod TasksLemmas
 pub mod ClaimsLemmas
 pub mod FlushLemmas
 pub mod ServedLemmas
+pub mod CountsLemmas

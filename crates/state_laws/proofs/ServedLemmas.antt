@@ -1022,7 +1022,8 @@ committed_segments outcomes (piece.Failed work digest) old new served commits =
 
 pub closed_segments : (tasks failed : ℕ) (old new : Core) → SegmentsServed old → Closes tasks old new failed
     → SegmentsServed new
-closed_segments = closed_keeps SegmentsServed shell_served failed_segments
+closed_segments =
+    closed_keeps SegmentsServed shell_served (λ boundary digest old new made. failed_segments boundary digest old new)
 
 appended_segments : (plan : Plan) (budget : ℕ) (old new : Core) → SegmentsServed old → AppendsFlush plan budget old new
     → SegmentsServed new

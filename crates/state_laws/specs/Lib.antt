@@ -1,3 +1,4 @@
 pub mod Tasks
 pub mod Claims
 pub mod Segments
+pub mod Counts

@@ -3,7 +3,9 @@
 #![tactic(auto)]
 
 mod claims;
+mod counts;
 mod segments;
 
 pub use claims::laws_of_claim_numbers;
+pub use counts::laws_of_task_counts;
 pub use segments::laws_of_served_segments;
