@@ -5,3 +5,4 @@ pub mod ClaimsLemmas
 pub mod FlushLemmas
 pub mod ServedLemmas
 pub mod CountsLemmas
+pub mod WaitsLemmas

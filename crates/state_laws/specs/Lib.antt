@@ -2,3 +2,4 @@ pub mod Tasks
 pub mod Claims
 pub mod Segments
 pub mod Counts
+pub mod Waits
