@@ -1,5 +1,5 @@
 -- Each open segment goes on having exactly one task.
-use Rattle.std.proofs.Common.{◌≡◌, ℕ, zero, suc, ◌+◌, ◌<◌, ◌≤◌, ◌⊎◌, Bool, true, false, cond, not, is_some, if◌then◌else◌, eqb, List, [], ◌∷◌, ◌++◌, length, map, get_or, slice_index_or, slice_set, Option, Some, None, inl, inr, refl, sym, ap, subst, ◌∙◌, arith}
+use Rattle.std.proofs.Common.{◌≡◌, ℕ, zero, suc, ◌+◌, ◌<◌, ◌≤◌, ◌⊎◌, Bool, true, false, cond, not, is_some, if◌then◌else◌, eqb, List, [], ◌∷◌, ◌++◌, length, map, get_or, slice_index_or, slice_set, Option, Some, None, IsSome, inl, inr, refl, sym, ap, subst, ◌∙◌, arith}
 use Rattle.std.proofs.lemmas.Bool.{cases_eq, cases_lt, cases_Bool, cond-false, cond-true}
 use Rattle.std.proofs.lemmas.List.{get_or_past, get_or_push, get_or-set_other, length-set}
 use Rattle.std.specs.Str.{bytes_eq}
@@ -1060,3 +1060,20 @@ pub flushed_segments : (plan : Plan) (budget : ℕ) (old new : Core) → Segment
     → SegmentsServed new
 flushed_segments plan budget old new served flushes =
     flushed_keeps SegmentsServed plan budget old new (appended_segments plan budget old new) served flushes
+
+-- What is left serves a segment.
+
+kept_serves : (claim : Option Claim) → IsSome claim → (segment : ℕ) × (kept_segment claim ≡ Some segment)
+kept_serves None is = absurd (not_true is)
+kept_serves (Some claim) is = (claim.segment, refl)
+
+left_serves : (state : State Job) (claim : Option Claim) → IsKeptOf state claim → is_gone state ≡ false
+    → (segment : ℕ) × (served_by state claim ≡ Some segment)
+left_serves Gone claim kept left = absurd (not_true (sym left))
+left_serves (Runnable job) claim kept left = (job.segment, refl)
+left_serves (Claimed n) claim kept left = kept_serves claim kept
+left_serves (Waiting resource job) claim kept left = (job.segment, refl)
+
+pub each_serves : (core : Core) (task : ℕ) → SegmentsServed core → IsLeft core task → (segment : ℕ) × Serves core task segment
+each_serves core task served left =
+    left_serves (state_at core.tasks.states task) (claim_at core.claims task) (served.claims.kept task) left

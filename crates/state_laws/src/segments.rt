@@ -13,7 +13,8 @@ ghost use Rattle.request_state.specs.Committing.{CommitsPiece};
 ghost use Rattle.request_state.specs.Flushing.{FlushesState};
 ghost use Rattle.request_state.specs.Reclaiming.{with_reclaimed};
 ghost use Rattle.request_state.specs.Settling.{Settles};
-ghost use Rattle.state_laws.specs.Segments.{SegmentsServed};
+ghost use Rattle.state_laws.specs.Segments.{SegmentsServed, Serves};
+ghost use Rattle.state_laws.specs.Tasks.{IsLeft};
 
 /// Each open segment has exactly one task, and each task that is left serves an open segment, which its owner has: at
 /// first, and after each call.
@@ -32,4 +33,6 @@ pub fn laws_of_served_segments()
         Closes tasks old new failed → SegmentsServed new }
     ensures flushed { (plan : Plan) (budget : ℕ) (old new : Core) → SegmentsServed old →
         FlushesState plan budget old new → SegmentsServed new }
+    ensures serves { (core : Core) (task : ℕ) → SegmentsServed core → IsLeft core task →
+        (segment : ℕ) × Serves core task segment }
 {}

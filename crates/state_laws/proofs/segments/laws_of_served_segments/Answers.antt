@@ -1,4 +1,4 @@
-use Rattle.state_laws.proofs.ServedLemmas.{claimed_segments, closed_segments, committed_segments, first_segments, flushed_segments, reclaimed_segments, returned_segments, settles_segments}
+use Rattle.state_laws.proofs.ServedLemmas.{claimed_segments, closed_segments, committed_segments, each_serves, first_segments, flushed_segments, reclaimed_segments, returned_segments, settles_segments}
 use Rattle.state_laws.proofs.segments.laws_of_served_segments.Goals as goal
 
 pub returns : goal.returns
@@ -11,4 +11,5 @@ returns c = record {
   reclaimed = reclaimed_segments;
   closed = closed_segments;
   flushed = flushed_segments;
+  serves = each_serves;
 }
