@@ -1,6 +1,5 @@
 -- Claim numbers stay apart, and what is kept of claims goes on fitting the tasks.
-use Rattle.std.proofs.Common.{◌≡◌, ℕ, zero, suc, ◌+◌, ◌<◌, Bool, true, false, cond, if◌then◌else◌, List, [], ◌∷◌, ◌++◌, length, map, slice_set, Option, Some, None, IsSome, inl, inr, refl, sym, ap, subst, ◌∙◌, arith}
-use Rattle.std.proofs.lemmas.Bool.{cases_eq}
+use Rattle.std.proofs.Common.{◌≡◌, ℕ, zero, suc, ◌+◌, Bool, true, false, cond, if◌then◌else◌, List, [], ◌∷◌, ◌++◌, length, map, slice_set, Option, Some, None, refl, sym, ap, subst, ◌∙◌}
 use Rattle.std.specs.Str.{bytes_eq}
 use Rattle.settle_script.specs.declared.value.Entry.{Entry}
 use Rattle.settle_script.specs.declared.outcome.Outcome.{Outcome}
@@ -13,7 +12,7 @@ use Rattle.fizz_task.proofs.Dropping.{at_dropped}
 use Rattle.fizz_task.proofs.Keeping.{numbered_claim}
 use Rattle.fizz_task.specs.declared.state.State.{State}
 use Rattle.fizz_task.specs.declared.state.State.TheVariants.{Gone, Runnable, Claimed, Waiting}
-use Rattle.fizz_task.specs.Board.{AreNumbered, Board, claim_of, count_of, is_claimed, state_at}
+use Rattle.fizz_task.specs.Board.{AreNumbered, Board, claim_of, state_at}
 use Rattle.fizz_task.specs.Calls.{is_owned, owner_at, woken}
 use Rattle.fizz_task.specs.Indexed.{is_gone}
 use Rattle.fizz_boundary.specs.Bounds.{Bounds}
@@ -24,17 +23,17 @@ use Rattle.request_state.specs.declared.making.Made.TheVariants as m
 use Rattle.request_state.specs.Claiming.{HandsOut, claim_at, given_back, given_back_to, job_again, keeps, kept_of, owner_of}
 use Rattle.request_state.specs.Closing.{Closes}
 use Rattle.request_state.specs.Committing.{CommitsPiece, TakesPieceIf, put_off_to, with_bytes}
-use Rattle.request_state.specs.Core.{Core, free, new_core, root_job}
+use Rattle.request_state.specs.Core.{Core, free, new_core}
 use Rattle.request_state.specs.Failing.{FailsBoundary, marked_failed, with_dropped, with_shell_failed}
 use Rattle.request_state.specs.Flushing.{AppendsFlush, FlushesState}
 use Rattle.request_state.specs.Making.{made_of, with_all_made, with_made}
-use Rattle.request_state.specs.Reclaiming.{all_again, job_kept, renumbered_if, with_reclaimed}
+use Rattle.request_state.specs.Reclaiming.{job_kept, with_reclaimed}
 use Rattle.request_state.specs.Settling.{Settles, with_settled}
 use Rattle.state_laws.specs.Claims.{ClaimsFit, IsKeptOf}
 use Rattle.state_laws.specs.Tasks.{IsLeft, TasksFit}
 use Rattle.state_laws.proofs.Calls.{blocked_keeps, claimed_under, closed_keeps, failed_keeps, flushed_keeps, owner_failed_keeps, returned_keeps}
 use Rattle.state_laws.proofs.Points.{both_push, both_set, push_reads, set_reads}
-use Rattle.state_laws.proofs.TasksLemmas.{AddsTask, CanMake, ChangesTask, SameTasks, added_fit, again_of, all_made_keeps, at_woken, begun, begun_can, begun_changes, begun_fit, bounded, bounded_can_new, bounded_fit, changed_fit, changed_same, claimed_left, content_added, content_can, counted_same, dropped_fit, fallback_added, frame_same, handed, handed_changes, hole_added, is_handed, left_inside, marked_fit, new_state, none_left, place_inside, reclaimed_claims, reclaimed_reads, reclaimed_same, same_fit, settled_same, shell_failed_fit, twin_job, with_child, with_content}
+use Rattle.state_laws.proofs.TasksLemmas.{AddsTask, CanMake, ChangesTask, added_fit, again_of, all_made_keeps, at_woken, begun, begun_can, begun_changes, bounded, bounded_can_new, bounded_fit, changed_fit, claimed_left, content_added, content_can, counted_same, dropped_fit, fallback_added, frame_same, handed, handed_changes, hole_added, is_handed, left_inside, marked_fit, new_state, none_left, place_inside, reclaimed_claims, reclaimed_reads, reclaimed_same, same_fit, settled_same, shell_failed_fit, twin_job, with_child, with_content}
 
 nothing_claims : (n : ℕ) → ◌≡◌ {A = Option ℕ} None (Some n) → ⊥
 nothing_claims n e = cc
@@ -357,8 +356,11 @@ taken_claims outcomes work bytes kids (Some claim) old new kept fit takes =
     all_made_keeps ClaimsFit owner claim.segment (made_claims owner claim.segment) made core
     (begun_can owner claim.segment work bytes (length kids) roomy room.tasks left own) started in
     subst ClaimsFit (sym takes.taken)
-    (record { tasks = record { owned = all.tasks.owned; places = all.tasks.places; owners = all.tasks.owners };
-      numbered = all.numbered; kept = all.kept })
+    (record {
+      tasks = record { owned = all.tasks.owned; places = all.tasks.places; owners = all.tasks.owners };
+      numbered = all.numbered;
+      kept = all.kept;
+    })
 
 pub committed_claims : (outcomes : List (Entry Outcome)) (one : Piece) (old new : Core) → ClaimsFit old
     → CommitsPiece outcomes one old new → ClaimsFit new

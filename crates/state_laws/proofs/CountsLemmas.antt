@@ -1,6 +1,6 @@
 -- Live boundaries and the shell go on counting their tasks.
 use Rattle.std.proofs.Common.{◌≡◌, ℕ, zero, suc, ◌+◌, ◌-◌, ◌<◌, ◌≤◌, ◌==◌, Bool, true, false, cond, not, ◌&&◌, nat_lt, if◌then◌else◌, List, [], ◌∷◌, ◌++◌, length, map, slice_get, slice_set, Option, Some, None, inl, inr, refl, sym, ap, subst, ◌∙◌, arith}
-use Rattle.std.proofs.lemmas.Bool.{cases_Bool, cases_eq, cases_lt, cond-false, cond-true, eq-eqb, ne_eqb}
+use Rattle.std.proofs.lemmas.Bool.{cases_Bool, cases_eq, cond-false, cond-true, eq-eqb, ne_eqb}
 use Rattle.std.proofs.lemmas.List.{length-map, length-set}
 use Rattle.std.proofs.lemmas.Option.{slice_get_past, slice_get_within}
 use Rattle.settle_script.specs.declared.value.Entry.{Entry}
@@ -18,7 +18,7 @@ use Rattle.fizz_boundary.specs.declared.boundary.State.TheVariants.{Pending, Com
 use Rattle.fizz_task.specs.declared.state.State.{State}
 use Rattle.fizz_task.specs.declared.state.State.TheVariants.{Gone, Runnable, Claimed, Waiting}
 use Rattle.fizz_task.specs.Board.{Board, one, state_at}
-use Rattle.fizz_task.specs.Calls.{owner_at, same_owner, without_owned, woken}
+use Rattle.fizz_task.specs.Calls.{owner_at, same_owner, without_owned}
 use Rattle.fizz_task.specs.Indexed.{is_gone}
 use Rattle.id_lists.proofs.Counts.{one_same}
 use Rattle.id_lists.specs.Lists.{one as one_time, times}
@@ -41,7 +41,7 @@ use Rattle.state_laws.specs.Tasks.{IsLeft, TasksFit}
 use Rattle.state_laws.proofs.Calls.{all_dropped_keeps, blocked_keeps, closed_keeps, flushed_keeps, returned_keeps}
 use Rattle.state_laws.proofs.ClaimsLemmas.{new_tasks_fit, work_left}
 use Rattle.state_laws.proofs.Points.{length-push, set_reads}
-use Rattle.state_laws.proofs.TasksLemmas.{AddsTask, CanMake, ChangesTask, SameTasks, added_fit, at_woken, begun, begun_can, begun_changes, begun_fit, bounded, bounded_can_new, bounded_fit, changed_fit, content_added, dropped_fit, fallback_added, frame_same, gone-woken, handed, handed_changes, hole_added, is_handed, is_same, left_inside, length-changed_at, made_can, made_fit, marked_fit, new_state, none_left, reclaimed_gone, reclaimed_same, same_fit, same_self, settled_same, shell_failed_fit, twin_job, with_child, with_content}
+use Rattle.state_laws.proofs.TasksLemmas.{AddsTask, CanMake, ChangesTask, added_fit, at_woken, begun, begun_can, begun_changes, begun_fit, bounded, bounded_can_new, bounded_fit, changed_fit, content_added, dropped_fit, fallback_added, frame_same, gone-woken, handed, handed_changes, hole_added, is_handed, is_same, left_inside, length-changed_at, made_can, made_fit, marked_fit, new_state, none_left, reclaimed_gone, reclaimed_same, same_fit, same_self, settled_same, shell_failed_fit, twin_job, with_child, with_content}
 
 not_true : false ≡ true → ⊥
 not_true e = cc
@@ -119,8 +119,11 @@ count-unowned : (owner : Option ℕ) (owners : List (Option ℕ)) (states : List
 count-unowned owner [] states many apart = refl
 count-unowned owner (first ∷ owners) [] many apart = refl
 count-unowned owner (first ∷ owners) (state ∷ states) many apart =
-    omega (arith, here (same_owner owner first) (is_gone state) refl refl,
-    count-unowned owner owners states (omega arith) (λ i. apart (suc i)))
+    omega (
+      arith,
+      here (same_owner owner first) (is_gone state) refl refl,
+      count-unowned owner owners states (omega arith) (λ i. apart (suc i)),
+    )
   where
     here : (same gone : Bool) → same_owner owner first ≡ same → is_gone state ≡ gone
         → one (same_owner owner first && not (is_gone state)) ≡ 0
@@ -496,8 +499,12 @@ marked_counted boundary digest core within made exactly counted =
         (λ same. failed_unit digest (tasks_of (all_dropped within core) (Some other)) (bound_at core.boundaries.bounds boundary))
         (λ apart. subst (λ n. BoundCounts n (bound_at core.boundaries.bounds other))
         (sym (count-all_dropped within core (Some other)
-        (λ b stands. other_owner (Some other) (Some b) (λ is. omega (arith, stands, absent,
-        ap (λ i. times i within) (some_is other b is))))))
+        (λ b stands. other_owner (Some other) (Some b) (λ is. omega (
+          arith,
+          stands,
+          absent,
+          ap (λ i. times i within) (some_is other b is),
+        )))))
         (counted.counts other (changed_live (failed_with digest) (λ s is. refl) boundary core.boundaries.bounds other live)))
 
 failed_counted : (boundary : ℕ) (digest : List ℕ) (old new : Core) → boundary < length old.boundaries.bounds → TasksCounted old
@@ -653,8 +660,14 @@ bound_counted owner parent place path content fallback left core mid = record {
     not_owner = other_owner (Some nb) owner (λ is. omega (arith, mid.can.made nb (sym is)))
 
     count_new : tasks_of new (Some nb) + share (Some nb) owner left ≡ 1
-    count_new = omega (arith, both (Some nb), none_owned, ap one (same_self (Some nb)), ap one not_owner,
-        ap (λ (b : Bool). cond b left 0) not_owner)
+    count_new = omega (
+      arith,
+      both (Some nb),
+      none_owned,
+      ap one (same_self (Some nb)),
+      ap one not_owner,
+      ap (λ (b : Bool). cond b left 0) not_owner,
+    )
 
 made_counted : (owner : Option ℕ) (parent : ℕ) (made : Made) (left : ℕ) (core : Core) → BeingCounted owner (left + 1) core
     → BeingCounted owner left (with_made owner parent made core)
@@ -707,8 +720,12 @@ count-begun owner segment work bytes kids core other fit left own =
     let states : tasks_of next other ≡ count_owned other core.tasks.owners (slice_set core.tasks.states work.task Gone) =
     ap (λ (l : List (Option ℕ)). count_owned other l next.tasks.states) change.owners
     ∙ ap (count_owned other core.tasks.owners) change.states in
-    omega (arith, states, ap (λ (o : Option ℕ). one (same_owner other o)) own,
-    count-gone other core.tasks.owners core.tasks.states work.task fit.owned left)
+    omega (
+      arith,
+      states,
+      ap (λ (o : Option ℕ). one (same_owner other o)) own,
+      count-gone other core.tasks.owners core.tasks.states work.task fit.owned left,
+    )
 
 begun_counted : (owner : Option ℕ) (segment : ℕ) (work : Work) (bytes : List ℕ) (kids : ℕ) (core : Core)
     → IsLeft core work.task → owner ≡ owner_at core.tasks.owners work.task → TasksCounted core

@@ -1,5 +1,5 @@
 -- A flush prints no segment that is open.
-use Rattle.std.proofs.Common.{◌≡◌, ℕ, Bool, true, false, not, is_some, List, [], ◌∷◌, length, get_or, slice_set, Option, Some, None, inl, inr, refl, sym, ap, subst, ◌∙◌, arith}
+use Rattle.std.proofs.Common.{◌≡◌, ℕ, Bool, true, false, not, is_some, List, length, slice_set, Option, Some, None, inl, inr, refl, sym, ap, subst, ◌∙◌, arith}
 use Rattle.std.proofs.lemmas.Bool.{cases_eq, cases_lt}
 use Rattle.std.proofs.lemmas.List.{get_or_past, get_or-set_other, length-set}
 use Rattle.fizz_segment.specs.declared.segment.Mark.{Mark}
@@ -7,7 +7,7 @@ use Rattle.fizz_segment.specs.declared.segment.Part.{Part}
 use Rattle.fizz_segment.specs.declared.segment.SegKind.{SegKind}
 use Rattle.fizz_segment.specs.declared.segment.SegKind.TheVariants.{Root, Child, Site}
 use Rattle.fizz_segment.specs.Tree.{blank, mark_at, part_at}
-use Rattle.flush_queues.specs.Flows.{Stage, Tables, complete, passed, pending, stage_of, stage_with}
+use Rattle.flush_queues.specs.Flows.{Tables, complete, passed, pending, stage_of, stage_with}
 use Rattle.flush_queues.specs.Flushing.{Flushes, Sends, Serves, Unit as FlushUnit, begins, goes_on as goes_on_without_shell, kind_role, leaves, over, part_role, refuses, reveals, sends_complete, sends_partial, serves, stops, stops_at_shell, turns, with_moved}
 use Rattle.flush_queues.specs.Printing.{Job, Prints, ends, goes_on, has_failed, is_child, is_inline, is_late, names, passes, prints}
 use Rattle.flush_queues.specs.declared.queues.Queue.{Queue}

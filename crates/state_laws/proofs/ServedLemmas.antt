@@ -1,6 +1,6 @@
 -- Each open segment goes on having exactly one task.
-use Rattle.std.proofs.Common.{◌≡◌, ℕ, zero, suc, ◌+◌, ◌<◌, ◌≤◌, ◌⊎◌, Bool, true, false, cond, not, is_some, if◌then◌else◌, eqb, List, [], ◌∷◌, ◌++◌, length, map, get_or, slice_index_or, slice_set, Option, Some, None, IsSome, inl, inr, refl, sym, ap, subst, ◌∙◌, arith}
-use Rattle.std.proofs.lemmas.Bool.{cases_eq, cases_lt, cases_Bool, cond-false, cond-true}
+use Rattle.std.proofs.Common.{◌≡◌, ℕ, zero, suc, ◌+◌, ◌<◌, ◌≤◌, ◌⊎◌, Bool, true, false, cond, if◌then◌else◌, List, [], ◌∷◌, ◌++◌, length, map, get_or, slice_set, Option, Some, None, IsSome, inl, inr, refl, sym, ap, subst, ◌∙◌, arith}
+use Rattle.std.proofs.lemmas.Bool.{cases_eq, cases_lt, cases_Bool, cond-false}
 use Rattle.std.proofs.lemmas.List.{get_or_past, get_or_push, get_or-set_other, length-set}
 use Rattle.std.specs.Str.{bytes_eq}
 use Rattle.settle_script.specs.declared.value.Entry.{Entry}
@@ -34,7 +34,7 @@ use Rattle.request_state.specs.declared.making.Twin.{Twin}
 use Rattle.request_state.specs.Claiming.{HandsOut, claim_at, given_back, given_back_to, job_again, keeps, kept_of, owner_of}
 use Rattle.request_state.specs.Closing.{Closes}
 use Rattle.request_state.specs.Committing.{CommitsPiece, TakesPieceIf, kept_segment, put_off_to, queued, with_bytes}
-use Rattle.request_state.specs.Core.{Core, free, new_core, root_job}
+use Rattle.request_state.specs.Core.{Core, free, new_core}
 use Rattle.request_state.specs.Failing.{FailsBoundary, all_forgotten, forgotten_unless_printed, marked_failed, with_dropped, with_shell_failed}
 use Rattle.request_state.specs.Flushing.{AppendsFlush, FlushesState}
 use Rattle.request_state.specs.Making.{made_of, owned as with_owned, with_all_made, with_made, with_own_segment, with_task}
@@ -43,11 +43,11 @@ use Rattle.request_state.specs.Settling.{Settles, with_settled}
 use Rattle.state_laws.specs.Claims.{ClaimsFit, IsKeptOf}
 use Rattle.state_laws.specs.Segments.{IsOpen, SegmentsFit, SegmentsServed, Serves, is_open, served_by}
 use Rattle.state_laws.specs.Tasks.{IsLeft, TasksFit}
-use Rattle.state_laws.proofs.Calls.{blocked_keeps, claimed_under, closed_keeps, failed_keeps, flushed_keeps, kept_under, owner_failed_keeps, returned_keeps}
-use Rattle.state_laws.proofs.ClaimsLemmas.{added_claims, begun_claims, claimed_claims, dropped_claims, first_claims, frame_claims, given_back_fit, marked_claims, new_fits, made_claims, put_off_fit, reclaimed_claims_fit, roomy_claims, settled_fit, shell_claims, work_left}
+use Rattle.state_laws.proofs.Calls.{blocked_keeps, claimed_under, closed_keeps, failed_keeps, flushed_keeps, owner_failed_keeps, returned_keeps}
+use Rattle.state_laws.proofs.ClaimsLemmas.{added_claims, begun_claims, claimed_claims, dropped_claims, frame_claims, given_back_fit, new_fits, made_claims, put_off_fit, reclaimed_claims_fit, roomy_claims, settled_fit, shell_claims, work_left}
 use Rattle.state_laws.proofs.FlushLemmas.{AreMarks, flushed_unprinted, set_unprinted}
 use Rattle.state_laws.proofs.Points.{at_push, at_set, both_push, both_set, inside, length-push, push_reads, set_reads}
-use Rattle.state_laws.proofs.TasksLemmas.{AddsTask, CanMake, ChangesTask, SameBut, added_can, again_of, all_made_keeps, at_woken, begun, begun_can, begun_changes, bounded_fit, bounded_can, bounded_can_new, counted_same, handed, handed_changes, hole_added, is_handed, is_same, left_inside, length-changed_at, new_state, none_left, owner_apart, place_inside, reclaimed_claims, reclaimed_reads, reclaimed_same, same_self, twin_job, with_child}
+use Rattle.state_laws.proofs.TasksLemmas.{AddsTask, CanMake, ChangesTask, SameBut, added_can, again_of, all_made_keeps, at_woken, begun, begun_can, begun_changes, counted_same, handed, handed_changes, hole_added, is_handed, is_same, left_inside, length-changed_at, new_state, none_left, owner_apart, place_inside, reclaimed_claims, reclaimed_reads, reclaimed_same, same_self, twin_job, with_child}
 
 no_segment : (n : ℕ) → ◌≡◌ {A = Option ℕ} None (Some n) → ⊥
 no_segment n e = cc
@@ -414,9 +414,14 @@ open-all_forgotten (s ∷ later) tree other opened =
     let after : (is_open (part_at next.parts other) ≡ true) × ((mark_at next.marks other).printed ≡ false → times other later ≡ 0) =
     open-all_forgotten later next other opened in
     let now : (is_open (part_at tree.parts other) ≡ true) × ((mark_at tree.marks other).printed ≡ false → other ≡ s → ⊥) =
-    open-forgotten_if (mark_at tree.marks s).printed s other tree refl after.0 in
-    (now.0, λ unprinted. omega (arith, one_other other s (now.1 unprinted),
-      after.1 (ap (λ (l : List Mark). (mark_at l other).printed) marks ∙ unprinted)))
+    open-forgotten_if (mark_at tree.marks s).printed s other tree refl after.0 in (
+      now.0,
+      λ unprinted. omega (
+        arith,
+        one_other other s (now.1 unprinted),
+        after.1 (ap (λ (l : List Mark). (mark_at l other).printed) marks ∙ unprinted),
+      ),
+    )
 
 drop_serves : (goes : Bool) (state : State Job) (claim : Option Claim) (segment : ℕ)
     → served_by (cond goes Gone state) claim ≡ Some segment → (goes ≡ false) × (served_by state claim ≡ Some segment)
@@ -459,9 +464,13 @@ module _ (boundary : ℕ) (core : Core) (served : SegmentsServed core) where
   drop_stays : (task segment : ℕ) → Serves core task segment → times segment (list_at core.own.lists boundary) ≡ 0
       → goes task ≡ false
   drop_stays task segment serves absent = elim (cases_Bool (goes task)) [
-    | inl gone ↦ absurd (omega (arith, absent, served.owned task segment boundary serves,
-        ap one (ap (λ (o : Option ℕ). same_owner o (Some boundary))
-        (sym (is_same (Some boundary) (owner_at core.tasks.owners task) gone)) ∙ same_self (Some boundary))))
+    | inl gone ↦ absurd (omega (
+      arith,
+      absent,
+      served.owned task segment boundary serves,
+      ap one (ap (λ (o : Option ℕ). same_owner o (Some boundary))
+          (sym (is_same (Some boundary) (owner_at core.tasks.owners task) gone)) ∙ same_self (Some boundary)),
+    ))
     | inr stays ↦ stays
   ]
 
@@ -492,9 +501,11 @@ module _ (boundary : ℕ) (core : Core) (served : SegmentsServed core) where
         let before : IsOpen core segment × ((mark_at core.segments.marks segment).printed ≡ false
         → times segment (list_at core.own.lists boundary) ≡ 0) =
         open-all_forgotten (list_at core.own.lists boundary) core.segments segment opened in
-        let found : (task : ℕ) × Serves core task segment = served.has_task segment before.0 in
-        (found.0, drop_back found.0 segment (drop_stays found.0 segment found.1
-          (before.1 (served.tables.unprinted segment before.0))) found.1);
+        let found : (task : ℕ) × Serves core task segment = served.has_task segment before.0 in (
+          found.0,
+          drop_back found.0 segment (drop_stays found.0 segment found.1
+              (before.1 (served.tables.unprinted segment before.0))) found.1,
+        );
     opened = λ task segment serves.
         let before : (goes task ≡ false) × Serves core task segment = drop_there task segment serves in
         ap is_open (other-all_forgotten (list_at core.own.lists boundary) core.segments segment
@@ -583,8 +594,13 @@ new-owned None own boundary within absent = absent boundary
 new-owned (Some n) own boundary within absent =
     set_reads (λ (l : List ℕ). times own.ids l ≡ one (same_owner (Some n) (Some boundary))) own.lists n
     (list_at own.lists n ++ own.ids ∷ []) [] boundary (within n refl)
-    (λ same. omega (arith, times-append own.ids (list_at own.lists n) (own.ids ∷ []), one_same own.ids own.ids refl,
-    absent n, ap one (ap (λ i. same_owner (Some n) (Some i)) same ∙ same_self (Some n))))
+    (λ same. omega (
+      arith,
+      times-append own.ids (list_at own.lists n) (own.ids ∷ []),
+      one_same own.ids own.ids refl,
+      absent n,
+      ap one (ap (λ i. same_owner (Some n) (Some i)) same ∙ same_self (Some n)),
+    ))
     (λ other. absent boundary ∙ sym (ap one (other_owner (Some n) (Some boundary)
     (λ is. other (sym (same_segment n boundary is))))))
 
@@ -622,8 +638,12 @@ module _ (owner : Option ℕ) (part : Part) (mark : Mark) (state : State Job) (o
 
   old_task : (task segment : ℕ) → Serves old task segment → task ≡ length old.tasks.states → ⊥
   old_task task segment serves same =
-      omega (arith, same, left_inside old task
-      (served_left (state_at old.tasks.states task) (claim_at old.claims task) segment serves))
+      omega (
+        arith,
+        same,
+        left_inside old task
+            (served_left (state_at old.tasks.states task) (claim_at old.claims task) segment serves),
+      )
 
   add_back : (task segment : ℕ) → Serves old task segment → Serves new task segment
   add_back task segment serves =
@@ -711,8 +731,11 @@ module _ (owner : Option ℕ) (part : Part) (mark : Mark) (state : State Job) (o
 
   add_has_task : (segment : ℕ) → IsOpen new segment → (task : ℕ) × Serves new task segment
   add_has_task segment opened = elim (cases_eq segment (length old.segments.parts)) [
-    | inl same ↦ (length old.tasks.states, add_reads (λ o. o ≡ Some segment) (length old.tasks.states)
-        (λ is. adds.serves ∙ ap Some (sym same)) (λ apart. absurd (apart refl)))
+    | inl same ↦ (
+      length old.tasks.states,
+      add_reads (λ o. o ≡ Some segment) (length old.tasks.states)
+          (λ is. adds.serves ∙ ap Some (sym same)) (λ apart. absurd (apart refl)),
+    )
     | inr apart ↦
         let found : (task : ℕ) × Serves old task segment = served.has_task segment (open_there segment apart opened) in
         (found.0, add_back found.0 segment found.1)
@@ -752,8 +775,11 @@ enlarged_claims owner path core fit = record {
   tasks = record {
     owned = fit.tasks.owned;
     places = fit.tasks.places;
-    owners = λ task boundary left is. omega (arith, fit.tasks.owners task boundary left is,
-        enlarged_more owner path core);
+    owners = λ task boundary left is. omega (
+      arith,
+      fit.tasks.owners task boundary left is,
+      enlarged_more owner path core,
+    );
   };
   numbered = fit.numbered;
   kept = fit.kept;
@@ -826,8 +852,11 @@ enlarged_can_new : (owner : Option ℕ) (path : List ℕ) (core : Core) → CanM
     → CanMake (Some (length core.boundaries.bounds)) (enlarged owner path core)
 enlarged_can_new owner path core can = record {
   even = can.even;
-  made = λ boundary is. omega (arith, same_segment (length core.boundaries.bounds) boundary is,
-      enlarged_more owner path core);
+  made = λ boundary is. omega (
+    arith,
+    same_segment (length core.boundaries.bounds) boundary is,
+    enlarged_more owner path core,
+  );
 }
 
 root_served : (owner : Option ℕ) (path : List ℕ) (content : Twin) (core : Core) → CanMake owner core → SegmentsServed core
@@ -964,9 +993,11 @@ module _ (owner : Option ℕ) (segment : ℕ) (work : Work) (bytes : List ℕ) (
     tables = begun_tables;
     has_task = λ other opened.
         let before : (other ≡ segment → ⊥) × IsOpen core other = begun_open other opened in
-        let found : (task : ℕ) × Serves core task other = served.has_task other before.1 in
-        (found.0, begun_back found.0 other (λ same. before.0
-          (same_segment other segment (sym (subst (λ i. Serves core i other) same found.1) ∙ serves_it))) found.1);
+        let found : (task : ℕ) × Serves core task other = served.has_task other before.1 in (
+          found.0,
+          begun_back found.0 other (λ same. before.0
+              (same_segment other segment (sym (subst (λ i. Serves core i other) same found.1) ∙ serves_it))) found.1,
+        );
     opened = λ task other serves.
         let before : (task ≡ work.task → ⊥) × Serves core task other = begun_there task other serves in
         begun_opened other (λ same. before.0 (served.alone task work.task segment

@@ -1,5 +1,5 @@
 -- Tasks that wait go on waiting for what isn't settled.
-use Rattle.std.proofs.Common.{◌≡◌, ◌≢◌, ℕ, zero, suc, ◌+◌, ◌<◌, ◌≤◌, ◌==◌, Bool, true, false, ◌&&◌, if◌then◌else◌, is_none, is_some, List, [], ◌∷◌, ◌++◌, length, map, take, get_or, slice_index_or, slice_get, All, inl, inr, Option, Some, None, refl, sym, ap, subst, ◌∙◌, arith}
+use Rattle.std.proofs.Common.{◌≡◌, ℕ, zero, suc, ◌+◌, ◌≤◌, Bool, true, false, ◌&&◌, if◌then◌else◌, is_none, is_some, List, [], ◌∷◌, length, map, take, get_or, slice_index_or, All, inl, inr, Option, Some, None, refl, sym, ap, subst, ◌∙◌, arith}
 use Rattle.std.specs.Prelude.{Contains}
 use Rattle.std.specs.Str.{bytes_eq}
 use Rattle.std.proofs.lemmas.Bool.{cases_Bool, cases_lt, cond-false, eqb-true}
@@ -9,9 +9,8 @@ use Rattle.std.proofs.Math.ListN.{get_or-map}
 use Rattle.std.proofs.lemmas.Slice.Eq.{bytes_eq-Decides}
 use Rattle.settle_script.specs.declared.value.Entry.{Entry}
 use Rattle.settle_script.specs.declared.outcome.Outcome.{Outcome}
-use Rattle.settle_script.specs.Settlements.{entry_name, entry_named, known, name_at}
+use Rattle.settle_script.specs.Settlements.{entry_named, known, name_at}
 use Rattle.html_print.specs.Sheets.{printed_of}
-use Rattle.jsx_value.specs.Expansions.{is_ordered}
 use Rattle.jsx_value.specs.Positions.{Page, Place as PagePlace, root_place}
 use Rattle.jsx_value.specs.SeenPlaces.{place_at}
 use Rattle.jsx_value.specs.Spots.{Label, One, at, wait}
@@ -25,8 +24,7 @@ use Rattle.fizz_piece.specs.declared.work.Work.{Work}
 use Rattle.fizz_piece.specs.Pieces.{IsGoodWork, IsPieceOf, IsPlaced, PrintsWork, WaitsFor, cut_of, page_under, position_at}
 use Rattle.fizz_piece.specs.Places.{place_in, position_of}
 use Rattle.fizz_piece.specs.Printing.{piece_sheet}
-use Rattle.position_laws.specs.Gaps.{Gap, IsGapIn, cut_gaps, gap_of, gap_path, gaps_of, waiting}
-use Rattle.position_laws.specs.Paths.{label_at}
+use Rattle.position_laws.specs.Gaps.{Gap, IsGapIn, cut_gaps, gap_of, gaps_of}
 use Rattle.fizz_task.specs.declared.state.State.{State}
 use Rattle.fizz_task.specs.declared.state.State.TheVariants.{Gone, Runnable, Claimed, Waiting}
 use Rattle.fizz_task.specs.Board.{Board, claim_of, count_of, is_claimed, state_at}
@@ -39,13 +37,13 @@ use Rattle.request_state.specs.declared.making.Made.TheVariants as m
 use Rattle.request_state.specs.declared.making.Twin.{Twin}
 use Rattle.request_state.specs.Claiming.{HandsOut, claim_at, given_back, given_back_to, is_claim, is_kept_as, job_again, keeps, place_in as place_of_work}
 use Rattle.request_state.specs.Closing.{Closes}
-use Rattle.request_state.specs.Committing.{CommitsPiece, TakesPieceIf, counted, put_off_to, with_blocked, with_bytes, with_waiting}
+use Rattle.request_state.specs.Committing.{CommitsPiece, TakesPieceIf, counted, put_off_to, with_blocked, with_bytes}
 use Rattle.request_state.specs.Core.{Core, free, new_core, root_job}
-use Rattle.request_state.specs.Failing.{FailsBoundary, each_dropped, marked_failed, with_dropped, with_shell_failed}
-use Rattle.request_state.specs.Flushing.{AppendsFlush, FlushesState}
-use Rattle.request_state.specs.Making.{made_of, still_waits, unless, with_all_made, with_made, with_task}
+use Rattle.request_state.specs.Failing.{FailsBoundary, each_dropped, with_shell_failed}
+use Rattle.request_state.specs.Flushing.{FlushesState}
+use Rattle.request_state.specs.Making.{made_of, still_waits, with_all_made, with_made, with_task}
 use Rattle.request_state.specs.Reclaiming.{again, all_again, job_kept, renumbered_if, returned_if, with_reclaimed}
-use Rattle.request_state.specs.Settling.{Settles, with_settled}
+use Rattle.request_state.specs.Settling.{Settles}
 use Rattle.request_laws.specs.Works.{ClaimStands, WorksStand}
 use Rattle.state_laws.specs.Waits.{PlaceWaits, TaskWaits, TasksWait}
 use Rattle.state_laws.proofs.Calls.{closed_keeps, failed_keeps, flushed_keeps, owner_failed_keeps}

@@ -1,6 +1,5 @@
-use Rattle.std.proofs.Common.{◌≡◌, ℕ, ◌≤◌, true, [], None, refl}
+use Rattle.std.proofs.Common.{[], refl}
 use Rattle.jsx_syntax.specs.Rules.{IsApp}
-use Rattle.jsx_value.specs.Expansions.{is_ordered}
 use Rattle.jsx_value.specs.Positions.{Page}
 use Rattle.jsx_value.specs.Settling.{settled_since}
 use Rattle.fizz_piece.specs.declared.plan.Plan.{Plan}
