@@ -162,7 +162,7 @@ module _ {X : Type 0} where
   get_set fact (y ∷ ys) (suc k) x (suc j) within own others =
       get_set fact ys k x j (omega arith) (λ e. own (ap suc e)) (λ apart. others (λ e. apart (omega (arith, e))))
 
-  get_push : (fact : Option X → Type 0) (xs : List X) (x : X) (j : ℕ) → (j ≡ length xs → fact (Some x))
+  pub get_push : (fact : Option X → Type 0) (xs : List X) (x : X) (j : ℕ) → (j ≡ length xs → fact (Some x))
       → ((j ≡ length xs → ⊥) → fact (slice_get xs j)) → fact (slice_get (xs ++ x ∷ []) j)
   get_push fact [] x zero own others = own refl
   get_push fact [] x (suc j) own others = others (λ e. omega (arith, e))
@@ -170,7 +170,7 @@ module _ {X : Type 0} where
   get_push fact (y ∷ ys) x (suc j) own others =
       get_push fact ys x j (λ e. own (omega (arith, e))) (λ apart. others (λ e. apart (omega (arith, e))))
 
-abbrev changed_bound : (BoundState → BoundState) → Option Bound → Option Bound
+abbrev pub changed_bound : (BoundState → BoundState) → Option Bound → Option Bound
 changed_bound change None = None
 changed_bound change (Some bound) = Some (record bound { state = change bound.state })
 
@@ -178,7 +178,7 @@ some_bound : (bound : Bound) → ◌≡◌ {A = Option Bound} None (Some bound) 
 some_bound bound e = cc
 
 -- what stands at a boundary's number after its state was changed
-changed_reads : (fact : Option Bound → Type 0) (change : BoundState → BoundState) (boundary : ℕ) (bounds : List Bound) (other : ℕ)
+pub changed_reads : (fact : Option Bound → Type 0) (change : BoundState → BoundState) (boundary : ℕ) (bounds : List Bound) (other : ℕ)
     → (other ≡ boundary → fact (changed_bound change (bound_at bounds boundary)))
     → ((other ≡ boundary → ⊥) → fact (bound_at bounds other)) → fact (bound_at (changed_at change boundary bounds) other)
 changed_reads fact change boundary bounds other own others = by_bound (bound_at bounds boundary) refl
@@ -306,7 +306,7 @@ roomy_counted old roomy same fit counted =
       shell = ap (λ (c : Core). c.shell_tasks) same;
     }) fit counted
 
-roomy_fit : (old roomy : Core) → free roomy ≡ free old → TasksFit old → TasksFit roomy
+pub roomy_fit : (old roomy : Core) → free roomy ≡ free old → TasksFit old → TasksFit roomy
 roomy_fit old roomy same fit = same_fit old roomy (record {
   owners = ap (λ (c : Core). c.tasks.owners) same;
   states = ap (λ (c : Core). length c.tasks.states) same;

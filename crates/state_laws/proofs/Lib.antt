@@ -6,3 +6,4 @@ pub mod FlushLemmas
 pub mod ServedLemmas
 pub mod CountsLemmas
 pub mod WaitsLemmas
+pub mod NumbersLemmas

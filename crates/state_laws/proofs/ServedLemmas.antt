@@ -280,7 +280,7 @@ claimed_serves (Claimed number) n claim is = refl
 claimed_serves (Waiting resource job) n claim is = absurd (no_segment n is)
 
 -- the task of a work that is kept serves the segment that is kept of it
-work_serves : (core : Core) (work : Work) (claim : Claim) → keeps core work ≡ true
+pub work_serves : (core : Core) (work : Work) (claim : Claim) → keeps core work ≡ true
     → claim_at core.claims work.task ≡ Some claim → Serves core work.task claim.segment
 work_serves core work claim kept is =
     let found : (n : ℕ) × (claim_of (state_at core.tasks.states work.task) ≡ Some n) = claimed_under core work kept in
@@ -348,14 +348,14 @@ reclaimed_segments core served =
 
 -- the default is written
 module _ {X : Type 0} where
-  default_at : (xs : List X) (k : ℕ) (d : X) (j : ℕ) → j ≡ k → get_or (slice_set xs k d) j d ≡ d
+  pub default_at : (xs : List X) (k : ℕ) (d : X) (j : ℕ) → j ≡ k → get_or (slice_set xs k d) j d ≡ d
   default_at xs k d j same = elim (cases_lt k (length xs)) [
     | inl within ↦ at_set xs k d d j within same
     | inr past ↦ get_or_past (slice_set xs k d) j d (omega (arith, past, same, length-set xs k d))
   ]
 
 -- one segment is forgotten, or it is printed
-abbrev forgotten_if : Bool → ℕ → Tree → Tree
+abbrev pub forgotten_if : Bool → ℕ → Tree → Tree
 forgotten_if b s tree = if b then tree else forgotten s tree
 
 marks-forgotten_if : (b : Bool) (s : ℕ) (tree : Tree) → (forgotten_if b s tree).marks ≡ tree.marks
@@ -390,7 +390,7 @@ marks-all_forgotten (s ∷ later) tree =
     marks-all_forgotten later (forgotten_unless_printed s tree)
     ∙ marks-forgotten_if (mark_at tree.marks s).printed s tree
 
-length-all_forgotten : (list : List ℕ) (tree : Tree) → length (all_forgotten list tree).parts ≡ length tree.parts
+pub length-all_forgotten : (list : List ℕ) (tree : Tree) → length (all_forgotten list tree).parts ≡ length tree.parts
 length-all_forgotten [] tree = refl
 length-all_forgotten (s ∷ later) tree =
     length-all_forgotten later (forgotten_unless_printed s tree)

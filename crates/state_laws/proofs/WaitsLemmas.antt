@@ -35,7 +35,7 @@ use Rattle.request_state.specs.declared.job.Place.{Place}
 use Rattle.request_state.specs.declared.making.Made.{Made}
 use Rattle.request_state.specs.declared.making.Made.TheVariants as m
 use Rattle.request_state.specs.declared.making.Twin.{Twin}
-use Rattle.request_state.specs.Claiming.{HandsOut, claim_at, given_back, given_back_to, is_claim, is_kept_as, job_again, keeps, place_in as place_of_work}
+use Rattle.request_state.specs.Claiming.{HandsOut, claim_at, given_back, given_back_to, is_claim, is_kept_as, job_again, keeps, owner_of, place_in as place_of_work}
 use Rattle.request_state.specs.Closing.{Closes}
 use Rattle.request_state.specs.Committing.{CommitsPiece, TakesPieceIf, counted, put_off_to, with_blocked, with_bytes}
 use Rattle.request_state.specs.Core.{Core, free, new_core, root_job}
@@ -342,7 +342,7 @@ taken_waits : (plan : Plan) → StaysWaiting plan → (old new : Core) (work : W
 taken_waits plan stay old new work bytes kids None few own waits takes = absurd takes
 taken_waits plan stay old new work bytes kids (Some claim) few own waits takes =
     let roomy : Core = takes.roomy in
-    let owner : Option ℕ = _ in
+    let owner : Option ℕ = owner_of old work in
     let begun : Core = with_bytes work claim.segment bytes roomy in
     let core : Core = counted owner (length kids) (length bytes) begun in
     let settled : core.settled ≡ old.settled =

@@ -3,3 +3,4 @@ pub mod Claims
 pub mod Segments
 pub mod Counts
 pub mod Waits
+pub mod Numbers
