@@ -96,7 +96,7 @@ module _ (Fact : Core → Type 0) where
       fails.goes_on
   failed_if_keeps false boundary failed old new Then each is on holds fails = on old failed holds fails
 
-  each_failed_keeps : EachKeeps → (count from failed : ℕ) (old new : Core) → Fact old
+  pub each_failed_keeps : EachKeeps → (count from failed : ℕ) (old new : Core) → Fact old
       → FailEach count from old new failed → Fact new
   each_failed_keeps each zero from failed old new holds fail = subst Fact fail.0 holds
   each_failed_keeps each (suc count) from failed old new holds fail =

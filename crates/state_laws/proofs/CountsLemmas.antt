@@ -296,7 +296,7 @@ same_counted old new same fit counted = record {
 new_counted : TasksCounted new_core
 new_counted = record { tasks = new_tasks_fit; counts = λ boundary live. tt; shell = refl }
 
-roomy_counted : (old roomy : Core) → free roomy ≡ free old → TasksFit roomy → TasksCounted old → TasksCounted roomy
+pub roomy_counted : (old roomy : Core) → free roomy ≡ free old → TasksFit roomy → TasksCounted old → TasksCounted roomy
 roomy_counted old roomy same fit counted =
     same_counted old roomy (record {
       owners = ap (λ (c : Core). c.tasks.owners) same;
@@ -507,13 +507,13 @@ marked_counted boundary digest core within made exactly counted =
         )))))
         (counted.counts other (changed_live (failed_with digest) (λ s is. refl) boundary core.boundaries.bounds other live)))
 
-failed_counted : (boundary : ℕ) (digest : List ℕ) (old new : Core) → boundary < length old.boundaries.bounds → TasksCounted old
+pub failed_counted : (boundary : ℕ) (digest : List ℕ) (old new : Core) → boundary < length old.boundaries.bounds → TasksCounted old
     → FailsBoundary boundary digest old new → TasksCounted new
 failed_counted boundary digest old new made counted fails =
     subst TasksCounted (sym (fails.failed ∙ ap (marked_failed boundary digest) fails.dropped.dropped))
     (marked_counted boundary digest old fails.dropped.within made fails.dropped.exactly.exactly counted)
 
-shell_counted : (digest : List ℕ) (core : Core) → TasksCounted core → TasksCounted (with_shell_failed digest core)
+pub shell_counted : (digest : List ℕ) (core : Core) → TasksCounted core → TasksCounted (with_shell_failed digest core)
 shell_counted digest core counted =
     let new : Core = with_shell_failed digest core in
     let fit : TasksFit new = shell_failed_fit digest core counted.tasks in

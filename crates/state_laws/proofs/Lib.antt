@@ -7,3 +7,4 @@ pub mod ServedLemmas
 pub mod CountsLemmas
 pub mod WaitsLemmas
 pub mod NumbersLemmas
+pub mod ShellLemmas

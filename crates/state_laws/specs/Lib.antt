@@ -4,3 +4,4 @@ pub mod Segments
 pub mod Counts
 pub mod Waits
 pub mod Numbers
+pub mod Shell
