@@ -24,12 +24,14 @@ count_owned owner (first ∷ owners) (state ∷ states) =
 abbrev pub tasks_of : Core → Option ℕ → ℕ
 tasks_of core owner = count_owned owner core.tasks.owners core.tasks.states
 
--- A boundary of so many tasks is pending with this count, which isn't 0, or complete where there are none.
+-- A boundary of so many tasks is pending with this count, which isn't 0, or complete where there are none. Of one that has
+-- failed nothing is said.
 abbrev pub StateCounts : ℕ → BoundState → Type 0
 StateCounts count (Pending tasks bytes) = (tasks ≡ count) × (1 ≤ count)
 StateCounts count (Complete bytes) = count ≡ 0
 StateCounts count (Failed digest) = Unit {0}
 
+-- the same of a boundary; of one that was never made nothing is said
 abbrev pub BoundCounts : ℕ → Option Bound → Type 0
 BoundCounts count None = Unit {0}
 BoundCounts count (Some bound) = StateCounts count bound.state

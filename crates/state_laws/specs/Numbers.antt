@@ -30,7 +30,7 @@ BoundFits boundary segments None = Unit {0}
 BoundFits boundary segments (Some bound) =
     IsBelow bound.parent boundary × (bound.root < segments) × IsBelow bound.site segments
 
--- What segments and boundaries tell of each other was made.
+-- Each segment and each boundary tells only of what was made.
 pub record NumbersFit (core : Core) : Type 0 where
   pub parts : (segment : ℕ)
       → PartFits segment (length core.boundaries.bounds) (part_at core.segments.parts segment)

@@ -14,11 +14,12 @@ use Rattle.request_state.specs.Committing.{kept_segment}
 use Rattle.request_state.specs.Core.{Core}
 use Rattle.state_laws.specs.Claims.{ClaimsFit}
 
--- whether a segment is there and its bytes are still to come
+-- whether there is a segment whose bytes are still to come
 abbrev pub is_open : Option Part → Bool
 is_open None = false
 is_open (Some part) = not (is_some part.bytes)
 
+-- The segment of this number is open.
 abbrev pub IsOpen : Core → ℕ → Type 0
 IsOpen core segment = is_open (part_at core.segments.parts segment) ≡ true
 

@@ -4,6 +4,7 @@ use Rattle.request_state.specs.Core.{Core}
 use Rattle.state_laws.specs.Counts.{TasksCounted}
 use Rattle.state_laws.specs.Tasks.{IsLeft}
 
+-- No byte was sent, so no flush is marked.
 pub record HasSentNothing (core : Core) : Type 0 where
   pub transcript : core.transcript ≡ []
   pub marks : core.marks ≡ []

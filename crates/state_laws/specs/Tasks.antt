@@ -9,6 +9,7 @@ use Rattle.request_state.specs.Core.{Core}
 abbrev pub IsLeft : Core → ℕ → Type 0
 IsLeft core task = is_gone (state_at core.tasks.states task) ≡ false
 
+-- The tables of tasks have a place for each task, and owners that were made.
 pub record TasksFit (core : Core) : Type 0 where
   -- each task has an owner
   pub owned : length core.tasks.owners ≡ length core.tasks.states
