@@ -1,0 +1,10 @@
+pub mod Points
+pub mod Calls
+pub mod TasksLemmas
+pub mod ClaimsLemmas
+pub mod FlushLemmas
+pub mod ServedLemmas
+pub mod CountsLemmas
+pub mod WaitsLemmas
+pub mod NumbersLemmas
+pub mod ShellLemmas
