@@ -11,7 +11,7 @@ use std::test::Fail;
 use std::thread::Threads;
 
 /// The same text so many times.
-fn repeated(alloc: Global, text: &str, count: usize) -> Result<String, AllocError> {
+pub(super) fn repeated(alloc: Global, text: &str, count: usize) -> Result<String, AllocError> {
     let mut all = String::new(alloc);
     for _time in 0..count {
         all.push_str(text)?;
