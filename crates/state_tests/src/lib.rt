@@ -17,6 +17,8 @@ mod lists;
 #[cfg(test)]
 mod pages;
 #[cfg(test)]
+mod prefixes;
+#[cfg(test)]
 mod programs;
 #[cfg(test)]
 mod rows;

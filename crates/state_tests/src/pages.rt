@@ -27,6 +27,16 @@ pub(super) fn view_of(alloc: Global, page: &[u8]) -> Result<View, Fail> {
     Ok(machine.finish()?)
 }
 
+/// What the machine sees of the beginning of a page, of fewer than 65,536 bytes.
+pub(super) fn seen_so_far(alloc: Global, page: &[u8]) -> Result<View, Fail> {
+    let mut machine = Machine::new(alloc, Text::fixed(""));
+    if page.len() >= 65_536 {
+        return Err(Fail::from("the page is too long"));
+    }
+    machine.feed(page)?;
+    Ok(machine.view()?)
+}
+
 /// The settled document of a page, as it is printed.
 pub(super) fn settled_page(alloc: Global, page: &[u8]) -> Result<Vec<u8>, Fail> {
     let doc = view_of(alloc, page)?.settled(alloc)?;
