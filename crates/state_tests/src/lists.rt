@@ -19,8 +19,8 @@ use std::test::Fail;
 /// How many lists of calls are drawn for each page.
 const LISTS: u64 = 200;
 
-/// How many calls a list has at most.
-const MOST_CALLS: usize = 40;
+/// How many calls a list has, before those that end the page.
+const CALLS: usize = 40;
 
 /// A call, where so many works are held.
 fn step_of(draws: &mut Draws, held: usize) -> Step {
@@ -28,13 +28,20 @@ fn step_of(draws: &mut Draws, held: usize) -> Step {
     let budget = budget_of(draws.below(4));
     match draws.below(16) {
         0 | 1 => Step::Settle,
-        2 | 3 | 4 | 5 | 6 => Step::Hold,
-        7 | 8 | 9 => Step::Commit(place),
-        10 => Step::GiveBack(place),
-        11 => Step::WorkOnce,
-        12 => Step::Reclaim,
-        13 => Step::Close,
+        2 | 3 | 4 => Step::Hold,
+        5 | 6 | 7 => Step::Commit(place),
+        8 => Step::GiveBack(place),
+        9 | 10 | 11 | 12 => Step::WorkOnce,
+        13 => rare_step_of(draws.below(2)),
         _ => Step::Flush(budget),
+    }
+}
+
+fn rare_step_of(draw: usize) -> Step {
+    if draw == 0 {
+        Step::Reclaim
+    } else {
+        Step::Close
     }
 }
 
@@ -94,7 +101,7 @@ fn make_calls(
     requires { IsDriven driven.old.state driven.old.held.items }
     ensures { OnOk result (IsDriven driven.new.state driven.new.held.items) }
 {
-    'calls: for _ in 0..draws.below(MOST_CALLS + 1) {
+    'calls: for _ in 0..CALLS {
         let step = step_of(draws, driven.held.len());
         if !goes_on(alloc, driven, forest, step)? {
             return Ok(false);
